@@ -1,19 +1,15 @@
 -- Terms that are decoded speak of different vertices, with their states in their vertices' order.
-use Rattle.std.proofs.Common.{◌≡◌, ℕ, ◌==◌, List, [], ◌∷◌, true, false}
+use Rattle.std.proofs.Common.{◌≡◌, ℕ, ◌==◌, List, [], ◌∷◌, false}
 use Rattle.std.proofs.Common.{Option, Some, None, slice_get, refl, sym, ◌∙◌, arith}
 use Rattle.std.specs.List.{AllByRecursion}
-use Rattle.std.specs.List.Sorted.{IsStrictlySortedBy}
-use Rattle.std.specs.declared.cmp.Ordering.{Ordering}
-use Rattle.std.specs.declared.cmp.Ordering.TheVariants.{Less}
 use Rattle.std.proofs.lemmas.Bool.{false_from_ne_true, eqb-true}
-use Rattle.version_sets.specs.Sets.{Members}
 use Rattle.terms.specs.Terms.{TermView}
 use Rattle.incompatibilities.specs.Incompatibilities.{AllPast, IsRising}
 use Rattle.model.specs.Content.{Problem}
-use Rattle.model.specs.Vertices.{Vertex, State, same_vertex}
+use Rattle.model.specs.Vertices.{Vertex, same_vertex}
 use Rattle.model.specs.Axioms.{AreApart}
 use Rattle.numbering.specs.Numberings.{Numbering, IsNumbering}
-use Rattle.decoding.specs.Decoding.{states_in, with_term, terms_of}
+use Rattle.decoding.specs.Decoding.{with_term, terms_of}
 use Rattle.decoding.proofs.Decoded.{same_number}
 
 module _ (q : Problem) (vs : Numbering) (ok : IsNumbering q vs) where
@@ -40,17 +36,3 @@ module _ (q : Problem) (vs : Numbering) (ok : IsNumbering q vs) where
           → AreApart (with_term q o t.states (terms_of q vs ts))
       by rest None f = rest
       by rest (Some w) f = (past_apart t.vertex w f ts h.0, rest)
-
-all_in : (P : State → Type 0) (ss : List State) (m : Members) → AllByRecursion P ss → AllByRecursion P (states_in ss m)
-all_in P [] m h = tt
-all_in P (s ∷ ss) [] h = tt
-all_in P (s ∷ ss) (true ∷ m) h = (h.0, all_in P ss m h.1)
-all_in P (s ∷ ss) (false ∷ m) h = all_in P ss m h.1
-
-pub states_sorted : (cmp : State → State → Ordering) (ss : List State) (m : Members) → IsStrictlySortedBy cmp ss
-    → IsStrictlySortedBy cmp (states_in ss m)
-unfolding IsStrictlySortedBy
-states_sorted cmp [] m h = tt
-states_sorted cmp (s ∷ ss) [] h = tt
-states_sorted cmp (s ∷ ss) (true ∷ m) h = (all_in (λ r. cmp s r ≡ Less) ss m h.0, states_sorted cmp ss m h.1)
-states_sorted cmp (s ∷ ss) (false ∷ m) h = states_sorted cmp ss m h.1
