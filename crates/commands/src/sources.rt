@@ -1,11 +1,12 @@
 //! The source of a run.
 
-ghost use Rattle.std.specs.Prelude.{◌≡◌, IfErr, IfOk};
+ghost use Rattle.std.specs.Prelude.{◌≡◌, IfErr, IfOk, true};
+ghost use Rattle.catalogue.specs.Sources.{is_source};
 ghost use Rattle.words.specs.Views.{text_if};
 ghost use Rattle.commands.specs.Sources.{IsBadSource, IsSource};
 
 use crate::ending::Ending;
-use catalogue::{Source, is_source};
+use catalogue::{Source, SourceFault, is_source};
 use std::alloc::{AllocError, Global};
 
 /// The source of packages where the words name none.
@@ -26,10 +27,12 @@ pub(crate) fn source_text<'a, 's>(text: Option<&'s str>) -> Result<&'s str, Endi
 
 /// The source that this text is.
 pub(crate) fn own_source(alloc: Global, text: &str) -> Result<Source, AllocError>
+    requires { is_source text.now ≡ true }
     ensures { IfOk result (λ source. source ≡ text.now) }
 {
     match Source::parse(alloc, text) {
         Ok(source) => Ok(source),
-        Err(_) => Err(AllocError),
+        Err(SourceFault::OutOfMemory) => Err(AllocError),
+        Err(SourceFault::NotASource) => unreachable!(),
     }
 }

@@ -1,7 +1,8 @@
 //! What can be read of a lock that can't be read as a whole.
 
 use crate::marks::{Side, first_mark, side_of};
-use crate::section::{Section, readable_section};
+use crate::misread::Broken;
+use crate::section::{Section, read_version, readable_section};
 use classes::{Class, version_order};
 use semver::Version;
 use std::alloc::{AllocError, Global};
@@ -17,10 +18,10 @@ pub struct Readable {
 }
 
 /// A package of an index, with its version.
-#[derive(Clone, Copy)]
+#[derive(Drop)]
 struct Entry<'a> {
     section: Section<'a>,
-    version: &'a Version,
+    version: Version,
 }
 
 /// What can be read of a lock: each package that has a name, a version, a source and a checksum, and of those of one
@@ -82,22 +83,21 @@ fn push_sections(alloc: Global, bytes: &[u8], tables: &mut Vec<Table>) -> Result
 }
 
 fn part_of(alloc: Global, tables: &[Table]) -> Result<Readable, AllocError> {
-    let mut sections = Vec::new(alloc);
+    let mut entries = Vec::new(alloc);
     for table in tables.iter() {
-        push_packages(alloc, table, &mut sections)?;
+        push_packages(alloc, table, &mut entries)?;
     }
-    let versions = versions_of(alloc, &sections)?;
-    let mut entries = entries_of(alloc, &sections, &versions)?;
     entries.sort_by(|one, other| entry_order(one, other))?;
-    let kept = first_of_each(alloc, &entries)?;
-    lock_of(alloc, &kept)
+    // Those of one kind stand beside each other, the newest first.
+    entries.dedup_by(|next, first| kind_order(first, next) == Ordering::Equal);
+    lock_of(alloc, &entries)
 }
 
-/// Adds what the packages of a table say, as far as they are whole.
+/// Adds the packages of a table, as far as they are whole.
 fn push_packages<'a>(
     alloc: Global,
     table: &'a Table,
-    sections: &mut Vec<Section<'a>>,
+    entries: &mut Vec<Entry<'a>>,
 ) -> Result<(), AllocError> {
     let Some(packages) = table
         .get("package")
@@ -107,54 +107,36 @@ fn push_packages<'a>(
     };
     for value in packages.iter() {
         if let Some(table) = value.as_table() {
-            push_package(alloc, table, sections)?;
+            push_package(alloc, table, entries)?;
         }
     }
     Ok(())
 }
 
-/// Adds what a section says, if it is whole.
+/// Adds the package of a section, if it is whole.
 fn push_package<'a>(
     alloc: Global,
     table: &'a Table,
-    sections: &mut Vec<Section<'a>>,
+    entries: &mut Vec<Entry<'a>>,
 ) -> Result<(), AllocError> {
-    if let Some(section) = readable_section(alloc, table)? {
-        if section.source.is_some() && section.checksum.is_some() {
-            sections.push(section)?;
-        }
+    let Some(section) = readable_section(alloc, table)? else {
+        return Ok(());
+    };
+    if section.source.is_none() || section.checksum.is_none() {
+        return Ok(());
     }
+    let version = match read_version(alloc, section.version) {
+        Ok(version) => version,
+        Err(Broken::OutOfMemory) => return Err(AllocError),
+        Err(_) => return Ok(()),
+    };
+    entries.push(Entry { section, version })?;
     Ok(())
-}
-
-/// The versions of packages, which are there as texts.
-fn versions_of(alloc: Global, sections: &[Section<'_>]) -> Result<Vec<Version>, AllocError> {
-    let mut versions = Vec::new(alloc);
-    for section in sections.iter() {
-        match Version::parse(alloc, section.version) {
-            Ok(version) => versions.push(version)?,
-            Err(_) => return Err(AllocError),
-        }
-    }
-    Ok(versions)
-}
-
-fn entries_of<'a>(
-    alloc: Global,
-    sections: &[Section<'a>],
-    versions: &'a [Version],
-) -> Result<Vec<Entry<'a>>, AllocError> {
-    let mut entries = Vec::new(alloc);
-    for (section, version) in sections.iter().zip(versions.iter()) {
-        let section = *section;
-        entries.push(Entry { section, version })?;
-    }
-    Ok(entries)
 }
 
 /// By name, source and class, the newest first, so that those of one of each stand beside each other.
 fn entry_order(one: &Entry<'_>, other: &Entry<'_>) -> Ordering {
-    kind_order(one, other).then_with(|| version_order(other.version, one.version))
+    kind_order(one, other).then_with(|| version_order(&other.version, &one.version))
 }
 
 fn kind_order(one: &Entry<'_>, other: &Entry<'_>) -> Ordering {
@@ -162,25 +144,7 @@ fn kind_order(one: &Entry<'_>, other: &Entry<'_>) -> Ordering {
         .name
         .cmp(other.section.name)
         .then_with(|| one.section.source.cmp(&other.section.source))
-        .then_with(|| Class::of(one.version).cmp(&Class::of(other.version)))
-}
-
-/// Of those of one name, source and class the first; they stand beside each other.
-fn first_of_each<'a>(alloc: Global, entries: &[Entry<'a>]) -> Result<Vec<Entry<'a>>, AllocError> {
-    let mut kept = Vec::new(alloc);
-    for entry in entries.iter() {
-        if !is_like(kept.last(), entry) {
-            kept.push(*entry)?;
-        }
-    }
-    Ok(kept)
-}
-
-fn is_like(last: Option<&Entry<'_>>, entry: &Entry<'_>) -> bool {
-    match last {
-        Some(last) => kind_order(last, entry) == Ordering::Equal,
-        None => false,
-    }
+        .then_with(|| Class::of(&one.version).cmp(&Class::of(&other.version)))
 }
 
 /// The lock of these packages.

@@ -50,7 +50,7 @@ fn section_of(alloc: Global, table: &Table) -> Result<Section<'_>, Broken<'_>> {
     let name = text_at(table, "name")?;
     check_name(alloc, name)?;
     let version = text_at(table, "version")?;
-    check_version(alloc, version)?;
+    read_version(alloc, version)?;
     let source = plain_at(table, "source")?;
     let checksum = plain_at(table, "checksum")?;
     Ok(Section {
@@ -69,9 +69,10 @@ fn check_name(alloc: Global, text: &str) -> Result<(), Broken<'_>> {
     }
 }
 
-fn check_version(alloc: Global, text: &str) -> Result<(), Broken<'_>> {
+/// The version that a text is.
+pub(crate) fn read_version(alloc: Global, text: &str) -> Result<Version, Broken<'_>> {
     match Version::parse(alloc, text) {
-        Ok(_) => Ok(()),
+        Ok(version) => Ok(version),
         Err(error) => {
             if error == semver::Error::from(AllocError) {
                 Err(Broken::OutOfMemory)
