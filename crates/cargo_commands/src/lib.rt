@@ -5,6 +5,8 @@
 //! terminal shows meanwhile; it is given up before anything is printed. Then what is told is printed, painted or not
 //! (`showing`), and last the lock is replaced (`running`).
 //!
+//! With `-q` errors alone are told, of `why` and `skips` too: then the status is the answer.
+//!
 //! Nothing is stated of it: what is proved is what the calls promise, and `worked_cases` plays whole runs.
 #![tactic(auto)]
 

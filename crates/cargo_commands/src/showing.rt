@@ -58,8 +58,8 @@ pub(crate) fn shows_of<'a>(
 ) -> Result<Shows, Failure<'a>> {
     if manner.format == MessageFormat::Json {
         return Ok(Shows {
-            out: Show::Plain,
-            err: Show::Plain,
+            out: Show::Json,
+            err: Show::Json,
         });
     }
     let color = color_by(manner.color, around)?;

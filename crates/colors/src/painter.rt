@@ -1,6 +1,7 @@
 //! A writer that paints the lines which go through it.
 
 use crate::paint::push_painted;
+use crate::shown::{Escape, shown};
 use std::alloc::{AllocError, Global};
 use std::io::{self, Write};
 
@@ -9,10 +10,22 @@ use std::io::{self, Write};
 pub enum Show {
     Plain,
     InColors,
+    /// Lines of JSON, which stay JSON.
+    Json,
     Nothing,
 }
 
-/// A writer that hands on what it gets as it is, or painted line by line, or not at all.
+impl Show {
+    fn escape(self) -> Escape {
+        match self {
+            Show::Json => Escape::Json,
+            Show::Plain | Show::InColors | Show::Nothing => Escape::Braced,
+        }
+    }
+}
+
+/// A writer that hands on what it gets as it is, or painted line by line, or not at all; but control characters are told
+/// by their numbers.
 #[derive(Drop)]
 pub struct Painter<W: Write + Drop> {
     to: W,
@@ -54,9 +67,10 @@ impl<W: Write + Drop> Painter<W> {
 
 impl<W: Write + Drop> Write for Painter<W> {
     fn write(&mut self, buf: &[u8]) -> io::Result<usize> {
+        let text = shown(self.alloc, buf, self.show.escape())?;
         match self.show {
-            Show::Plain => return self.to.write(buf),
-            Show::InColors => self.paint(buf)?,
+            Show::Plain | Show::Json => self.to.write_all(text.as_bytes())?,
+            Show::InColors => self.paint(text.as_bytes())?,
             Show::Nothing => (),
         }
         Ok(buf.len())
