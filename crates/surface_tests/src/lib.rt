@@ -5,6 +5,8 @@
 #[cfg(test)]
 mod encodings;
 #[cfg(test)]
+mod failing;
+#[cfg(test)]
 mod lines;
 #[cfg(test)]
 mod loading;
@@ -14,5 +16,7 @@ mod names;
 mod problems;
 #[cfg(test)]
 mod sets;
+#[cfg(test)]
+mod solving;
 #[cfg(test)]
 mod trails;
