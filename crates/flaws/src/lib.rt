@@ -10,6 +10,9 @@
 //! What is told is there as values too (`flaws_of`, `lacking_features`, `why_missing`), for who tells it otherwise than
 //! in sentences.
 //!
+//! Of a package that is no candidate only why it is none is told, for nobody knows what it needs. That a package at
+//! fault is yanked is told too, though that is no fault.
+//!
 //! A layer above may rely on this: `flaws_of` gives just the packages at which a condition fails, in the order of the
 //! lock, each with just what is wrong there; none of them exactly where the lock is a valid selection. Of the sentences
 //! nothing is stated.

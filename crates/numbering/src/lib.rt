@@ -13,6 +13,10 @@
 //! and what owners bring is found by name (`called.rt`, `indexed.rt`) where a pass over it would be made for each of
 //! its parts; nothing that is stated here rests on what is kept.
 //!
+//! To number all vertices first costs a fifth of loading. Which versions of a class match isn't kept, as the terms over
+//! them cost as much; what owners bring is found by name only for an owner with more than 32 dependencies, or with two
+//! on one package.
+//!
 //! A layer above may rely on the laws at the end of this file. An assignment that breaks none of the entries for the
 //! pairs that hold in it breaks no instance at all; a valid selection breaks no instance over numbers. At most one term
 //! of an instance has `absent` among its states, so where propagation is at rest, taking `absent` wherever it is left

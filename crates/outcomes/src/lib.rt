@@ -8,6 +8,9 @@
 //! To people a fault is told in a sentence, with the code of `relock` behind it (`faults.rt`); to programs both have
 //! their own keys.
 //!
+//! This, `reports`, `messages` and `cargo_commands` are several crates since in one the check had come to no verdict
+//! after nine minutes.
+//!
 //! A layer above may rely on this: a lock is handed on only where `--write` was given and `--locked` wasn't, with the
 //! status 0 (`Outcome` of `with_new_lock`).
 #![tactic(auto)]

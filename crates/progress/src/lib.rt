@@ -5,6 +5,9 @@
 //! folder is given up: so nothing is left of it when an answer or an error is printed. A run that is over at once tells
 //! nothing. What was counted is there afterwards too (`Seen`), whoever watches.
 //!
+//! How many decisions and conflicts there were isn't told: the search would have to be handed somebody who listens, and
+//! each contract from `searching` up would speak of that one.
+//!
 //! A layer above may rely on this: a counted folder answers and fails as its own (`calls`, `failed`), so what is proved
 //! over every folder is proved over it. What is counted and told, and when, no clause says.
 #![tactic(auto)]

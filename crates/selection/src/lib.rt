@@ -23,6 +23,10 @@
 //! isn't known while versions are met. So the packages that are here are sorted, and then each target is put by the
 //! rank that its place has got (`listing.rt`), with no look-up of a package by its name.
 //!
+//! Versions that only disabled dependencies lead to are many times those of a lock, and aren't looked at. Each round
+//! costs as much as all that was met so far; so after eight, or where a round finds nothing more to be enabled, the
+//! next one follows all dependencies, which ends it.
+//!
 //! A layer above may rely on this: `verify` says `Valid` exactly where the content is a valid selection; else it gives
 //! the first package, in package order, with its lowest fault (`IsVerdict`, in `model`). `preferred` gives the walk
 //! exactly where it is complete and a valid selection, its root without a checksum; there is one walk and no other

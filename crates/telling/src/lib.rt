@@ -11,6 +11,10 @@
 //! Versions stand as ranges over the candidates of their name (`spans.rt`, `ranges.rt`), from marks that say which of
 //! them a term means (`marks.rt`).
 //!
+//! So a step that restates one premise has no sentence; one that a single step combines has none either, if its
+//! premises are two, or five where it speaks of a dependency's target or of what is asked for. What one package needs
+//! is one clause, the root's first, then name by name, older versions first.
+//!
 //! A layer above may rely on this: `sentences_of` loses no premise, and a range has exactly the versions that it is to
 //! have. Which dependencies no version fits is there for who knows why (`unmatched_in`). Whether the derivation is
 //! right is for the checker to say: ask it first.

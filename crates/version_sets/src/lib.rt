@@ -10,6 +10,10 @@
 //! lies behind a pointer, and its words are combined eight at a time (`kernels.rt`). `ListStates`, a rising list, is
 //! the plain body that tests hold it against.
 //!
+//! A set of words takes 16 bytes, also where its words lie elsewhere: a `Vec` in a `Box`, since a boxed slice is as
+//! large as a `Vec` here. `of_tests` is there for axioms, which name sets of many states: a union of single ones costs
+//! the whole set each time.
+//!
 //! A layer above may rely on this: both bodies give equal answers, since both meet the one contract; a call that makes
 //! no set takes no memory; and all that it has to see to is that two sets which meet in a call have one universe, of at
 //! most 65,536 numbers.

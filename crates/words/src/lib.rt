@@ -4,6 +4,8 @@
 //! builds the same commands and takes the values out of what `clap` matched. It stands alone in a crate, since `clap`
 //! is dear to check and only the words of `cargo relock` (`cargo_words`) need it too.
 //!
+//! A bare `relock` asks for help, with status 0 (`or_help`).
+//!
 //! A layer above may rely on this: where `clap` accepts the words, the command and its values are those that its
 //! meaning gives, and no other. Where it doesn't, `Help` and `Wrong` stand for kinds of its error, and their texts are
 //! `clap`'s, of which no contract says anything.
