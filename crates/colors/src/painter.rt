@@ -15,15 +15,6 @@ pub enum Show {
     Nothing,
 }
 
-impl Show {
-    fn escape(self) -> Escape {
-        match self {
-            Show::Json => Escape::Json,
-            Show::Plain | Show::InColors | Show::Nothing => Escape::Braced,
-        }
-    }
-}
-
 /// A writer that hands on what it gets as it is, or painted line by line, or not at all; but control characters are told
 /// by their numbers.
 #[derive(Drop)]
@@ -67,11 +58,16 @@ impl<W: Write + Drop> Painter<W> {
 
 impl<W: Write + Drop> Write for Painter<W> {
     fn write(&mut self, buf: &[u8]) -> io::Result<usize> {
-        let text = shown(self.alloc, buf, self.show.escape())?;
-        match self.show {
-            Show::Plain | Show::Json => self.to.write_all(text.as_bytes())?,
-            Show::InColors => self.paint(text.as_bytes())?,
-            Show::Nothing => (),
+        let escape = match self.show {
+            Show::Nothing => return Ok(buf.len()),
+            Show::Json => Escape::Json,
+            Show::Plain | Show::InColors => Escape::Braced,
+        };
+        let text = shown(self.alloc, buf, escape)?;
+        if self.show == Show::InColors {
+            self.paint(text.as_bytes())?;
+        } else {
+            self.to.write_all(text.as_bytes())?;
         }
         Ok(buf.len())
     }
