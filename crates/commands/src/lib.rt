@@ -11,9 +11,9 @@
 //! its write failed, text by text.
 //!
 //! The derivation is written before the explanation is told, so that who sees an explanation has the whole derivation
-//! in the file; a file that can't be written is a failure of its own and no refusal without its proof. Standard output
-//! is for the lock alone. Only a growth that was refused in this process is want of memory; the system's "cannot
-//! allocate memory" for a file is a failure of the folder.
+//! in the file; a file that can't be written is a failure of its own and no refusal without its proof. `resolve` prints
+//! the lock alone to standard output, so that a shell can send it to a file. Only a growth that was refused in this
+//! process is want of memory; the system's "cannot allocate memory" for a file is a failure of the folder.
 //!
 //! A layer above may rely on `Runs` alone: for the words that `clap` takes, a run reads what lies where they say, asks
 //! the call of that name with just this, and prints its answer.
