@@ -17,7 +17,7 @@ use propagation::{Satisfier, Trail};
 use std::alloc::{AllocError, Global};
 use version_sets::States;
 
-/// An incompatibility of so many terms is short.
+/// What has more terms is never short.
 const SHORT: usize = 4;
 
 /// What follows from the axioms and is satisfied now, the chain that it came out of, and the assignment that satisfied
@@ -239,8 +239,8 @@ fn with_stand_in<S: States + Drop>(
     }
 }
 
-/// A lesson of which the store has an entry, if it is short: what is short is often what forces the next assignment,
-/// and refusals that use it are shorter.
+/// A lesson of which the store has an entry, if it is short for what it took: what is short is often what forces the
+/// next assignment, and refusals that use it are shorter.
 fn kept_if_short<S: States + Drop>(
     alloc: Global,
     trail: &Trail<S>,
@@ -260,7 +260,8 @@ fn kept_if_short<S: States + Drop>(
     ensures trail { IsTrail (entries_view S.tests store.new) (trail_view S.tests trail.now) }
     ensures room { HasRoom first (trail_view S.tests trail.now) (entries_view S.tests store.new) }
 {
-    if lesson.incompatibility.terms().len() > SHORT {
+    let taken = lesson.chain.links().len();
+    if lesson.incompatibility.terms().len() > SHORT.min(taken.saturating_add(2)) {
         return Ok(lesson);
     }
     if !has_room(trail, store, first) {

@@ -162,14 +162,8 @@ fn stand_in_of<S: States + Drop>(store: &Store<S>, id: Id) -> Id
     ensures { result < length (entries_view S.tests store.now) }
 {
     match store.notes().stand_in(id) {
-        Some(other) => {
-            if other.index() < store.len() {
-                other
-            } else {
-                id
-            }
-        }
-        None => id,
+        Some(other) if other.index() < store.len() => other,
+        _ => id,
     }
 }
 
