@@ -1,5 +1,5 @@
 -- The store with what was learned, and what that says of a trail.
-use Rattle.std.proofs.Common.{◌≡◌, ℕ, suc, ◌+◌, ◌-◌, ◌<◌, ◌≤◌, List, [], ◌∷◌, ◌++◌, length, Option, Some, None}
+use Rattle.std.proofs.Common.{◌≡◌, ℕ, suc, ◌+◌, ◌-◌, ◌<◌, ◌≤◌, ◌⊎◌, true, false, nat_lt, List, [], ◌∷◌, ◌++◌, length, Option, Some, None}
 use Rattle.std.proofs.Common.{refl, sym, ap, ap₂, append_assoc, ◌∙◌, subst, arith, inl, inr}
 use Rattle.std.proofs.lemmas.Bool.{cases_lt}
 use Rattle.std.proofs.lemmas.List.{append-nil, get_or_append_left, length-append}
@@ -14,44 +14,16 @@ use Rattle.incompatibilities.specs.declared.origin.Origin.TheVariants as origins
 use Rattle.incompatibilities.proofs.Storing.{out_grown}
 use Rattle.propagation.specs.Promises.{IsTrail, LieIn}
 use Rattle.propagation.specs.Satisfaction.{IsOneOpen, Sat}
-use Rattle.propagation.specs.Trails.{TrailView, end_sets, set_of, sets_at, space_of}
+use Rattle.propagation.specs.Trails.{TrailView, end_sets, space_of}
 use Rattle.propagation.specs.declared.satisfying.Satisfier.{Satisfier}
 use Rattle.propagation.proofs.Places.{cut_sets}
 use Rattle.propagation.proofs.Soundness.{trail_grown}
-use Rattle.conflicts.specs.Resolving.{Ends, IsGained, IsHeld, IsKept, IsLesson, IsLone, Quiet, Teaches, outcome_of}
-use Rattle.conflicts.proofs.Steps.{before_level, least_is, level_low, open_by}
+use Rattle.conflicts.specs.Resolving.{Ends, IsGained, IsHeld, IsKept, IsLesson, IsLone, Quiet, Teaches, farthest}
+use Rattle.conflicts.specs.Resolving.{level_for, outcome_of}
+use Rattle.conflicts.proofs.Steps.{least_is, level_low, open_at}
 
 abbrev empty : EntryView
 empty = record { terms = []; origin = Axiom 0 }
-
--- ---- the store
-
--- the entry is there already
-pub kept_first : (es : List EntryView) (ts : List TermView) (chain : ChainView) → chain.first < length es
-    → ts ≡ (entry es chain.first).terms → IsKept es ts chain es chain.first
-kept_first es ts chain within same = record {
-  gained = [];
-  grown = sym (append-nil es);
-  new_one = inl refl;
-  within = within;
-  terms = sym same;
-}
-
--- it is a new one
-pub kept_new : (es : List EntryView) (ts : List TermView) (chain : ChainView) (new : List EntryView) (id : ℕ)
-    → 0 < length chain.links → id ≡ length es → new ≡ es ++ record { terms = ts; origin = origins.Learned chain } ∷ []
-    → IsKept es ts chain new id
-kept_new es ts chain new id some at grown = record {
-  gained = last ∷ [];
-  grown = grown;
-  new_one = inr (some, refl);
-  within = omega (arith, at, ap length grown, length-append es (last ∷ []));
-  terms = ap (λ (e : EntryView). e.terms) (ap₂ (λ (xs : List EntryView) n. entry xs n) grown at
-      ∙ get_or-append_seam es last [] empty);
-}
-  where
-    last : EntryView
-    last = record { terms = ts; origin = origins.Learned chain }
 
 -- ---- what is kept
 
@@ -101,14 +73,6 @@ module _ (es : List EntryView) (t : TrailView) (ts : List TermView) (chain : Cha
     },
   )
 
--- the store gains one entry at most, and none on a trail without assignments
-pub few_kept : (es : List EntryView) (t : TrailView) (ts : List TermView) (chain : ChainView) (new : List EntryView)
-    (made : ℕ) → IsKept es ts chain new made → length new ≤ length es + 1
-few_kept es t ts chain new made kept = elim kept.new_one [
-  | inl none ↦ omega (arith, ap length kept.grown, length-append es kept.gained, ap length none)
-  | inr one ↦ omega (arith, ap length kept.grown, length-append es kept.gained, ap length one.1)
-]
-
 pub few_is : (old es : List EntryView) (t : TrailView) (ts : List TermView) (chain : ChainView)
     (found : Option Satisfier) (new : List EntryView) (made : ℕ) → IsLesson es t ts chain found
     → IsKept es ts chain new made → length es ≤ length old + (length t.steps - 1)
@@ -119,6 +83,16 @@ few_is old es t ts chain found new made lesson kept few = elim kept.new_one [
     | inl no_link ↦ absurd (let some = one.0 in omega (arith, some, ap length no_link))
     | inr step ↦ omega (arith, few, step, ap length kept.grown, length-append es kept.gained, ap length one.1)
   ]
+]
+
+-- the level that a jump goes back to
+level_is : (s : Satisfier) → s.before < s.level → (s.before ≤ level_for s) × (level_for s < s.level)
+    × ((level_for s + farthest ≤ s.level) ⊎ (level_for s ≡ s.before))
+level_is s lt = elim (cases_lt s.before (s.level - farthest)) [
+  | inl less ↦ let is : nat_lt s.before (s.level - farthest) ≡ true = grind (arith, less) in
+      rw is (omega (arith, less), omega (arith, less), inl (omega (arith, less)))
+  | inr le ↦ let is : nat_lt s.before (s.level - farthest) ≡ false = grind (arith, le) in
+      rw is (omega arith, lt, inr refl)
 ]
 
 pub teaches_is : (es : List EntryView) (t : TrailView) (ts : List TermView) (chain : ChainView)
@@ -133,26 +107,28 @@ teaches_is es t ts chain None new made trail lesson ends kept follows = record {
 }
 teaches_is es t ts chain (Some s) new made trail lesson ends kept follows =
     let found = (lesson.here es trail).satisfier in
-    let lt : s.before < s.level = ends in
-    let low : s.before < t.level = omega (arith, lt, level_low es t ts s trail.sound found) in
-    let one = open_by (end_sets t s.before) (states_at ts) s (set_of (sets_at t (suc s.place)) s.vertex)
-    (states_at ts s.vertex) refl (found.satisfied.after s.vertex)
-    (found.opens.shrinks lt) found.opens.some found.satisfied.others_at
-    (before_level t ts s found.satisfied s.before lt) in (
-      omega (arith, low),
+    let low = level_low es t ts s trail.sound found in
+    let back = level_for s in
+    let at : (s.before ≤ back) × (back < s.level) × ((back + farthest ≤ s.level) ⊎ (back ≡ s.before)) =
+    level_is s ends in
+    let one = open_at es t ts s trail.sound found back at.0 at.1 in (
+      (let lt = at.1 in omega (arith, lt, low)),
       λ cut_trail gone cut. record {
         within = kept.within;
         follows = follows;
-        lower = low;
+        lower = (let lt = at.1 in omega (arith, lt, low));
         gone = gone;
         cut = cut;
         vertex = s.vertex;
         states = one.0;
         one = subst (λ (us : List TermView). IsOneOpen cut_trail.sets (states_at us) s.vertex one.0) (sym kept.terms)
             (subst (λ (ss : List Members). IsOneOpen ss (states_at ts) s.vertex one.0)
-            (cut_sets s.before t cut_trail gone cut) one.1);
-        least = λ l less v x o. least_is es t ts s trail.sound found lt l less v x
-            (subst (λ (us : List TermView). IsOneOpen (end_sets t l) (states_at us) v x) kept.terms o);
+            (cut_sets back t cut_trail gone cut) one.1);
+        least = elim at.2 [
+          | inl far ↦ inl (omega (arith, far, low))
+          | inr is ↦ inr (λ l less v x o. least_is es t ts s trail.sound found ends l (omega (arith, less, is)) v x
+              (subst (λ (us : List TermView). IsOneOpen (end_sets t l) (states_at us) v x) kept.terms o))
+        ];
       },
     )
 

@@ -4,6 +4,7 @@ use Rattle.std.proofs.Common.{Option, Some, None, refl, sym, ap, ◌∙◌, subs
 use Rattle.std.specs.Option.{is_some}
 use Rattle.std.proofs.lemmas.Bool.{cases_eq, cases_lt}
 use Rattle.version_sets.specs.Sets.{Members, inside, size}
+use Rattle.version_sets.proofs.Laws.{size-le}
 use Rattle.terms.specs.Terms.{TermView}
 use Rattle.incompatibilities.specs.Incompatibilities.{IsCombination, LiesIn, Terms, states_at, HoldsAt}
 use Rattle.incompatibilities.specs.Stores.{ComesOut, EntryView, entry, terms_of, touches}
@@ -18,7 +19,7 @@ use Rattle.propagation.specs.declared.satisfying.Satisfier.{Satisfier}
 use Rattle.propagation.proofs.Back.{sets_now}
 use Rattle.propagation.proofs.Combining.{combined_others}
 use Rattle.propagation.proofs.LevelLemmas.{place_low}
-use Rattle.propagation.proofs.Places.{end_is_place, holds_at_ends, kept, past_end, sat_later}
+use Rattle.propagation.proofs.Places.{end_is_place, holds_at_ends, kept, kept_le, past_end, sat_later, shrinks, some_at}
 use Rattle.propagation.proofs.SetLemmas.{meets_of}
 use Rattle.conflicts.specs.Resolving.{IsFound, IsHeld, IsLesson, IsLone, IsNext, IsPlaced, IsSatisfierOf, Quiet}
 use Rattle.conflicts.specs.Resolving.{place_of, places_left}
@@ -63,10 +64,6 @@ pub start_lies : (es : List EntryView) (t : TrailView) (id : ℕ) (ts : List Ter
     → ts ≡ (entry es id).terms → LiesIn (space_of t) (states_at ts)
 start_lies es t id ts trail within same =
     subst (λ (us : List TermView). LiesIn (space_of t) (states_at us)) (sym same) (trail.lies id within)
-
-pub start_sat : (es : List EntryView) (t : TrailView) (id : ℕ) (ts : List TermView) → Sat t.sets (terms_of es id)
-    → ts ≡ (entry es id).terms → Sat t.sets (states_at ts)
-start_sat es t id ts sat same = subst (λ (us : List TermView). Sat t.sets (states_at us)) (sym same) sat
 
 -- the chain that is an entry alone
 pub held_alone : (es : List EntryView) (t : TrailView) (id : ℕ) (ts : List TermView) (chain : ChainView) → IsTrail es t
@@ -216,6 +213,30 @@ open_by sets f s after (Some x) is h shrinks some others not = (
       | inr ne ↦ others u ne
     ]))
     apart false e = e
+
+-- so it is from the level where the others came to be satisfied up to the satisfier's
+pub open_at : (es : List EntryView) (t : TrailView) (ts : List TermView) (s : Satisfier) → IsSound t
+    → IsSatisfierOf es t ts s → (l : ℕ) → s.before ≤ l → l < s.level
+    → (x : Members) × IsOneOpen (end_sets t l) (states_at ts) s.vertex x
+open_at es t ts s sound found l ge lt = open_by (end_sets t l) (states_at ts) s
+    (set_of (sets_at t (suc s.place)) s.vertex) (states_at ts s.vertex) refl (found.satisfied.after s.vertex)
+    (subst (λ (ss : List Members). inside (set_of (sets_at t (suc s.place)) s.vertex) (set_of ss s.vertex) ≡ true)
+    (sym (end_is_place t l)) (shrinks t sound s.vertex (kept l t.steps) (suc s.place) earlier found.satisfied.within))
+    (subst (λ (ss : List Members). 0 < size (set_of ss s.vertex)) (sym (end_is_place t l))
+    (some_at t sound s.vertex (kept l t.steps) (kept_le l t.steps) some))
+    (λ u ne. holds_at_ends t sound u s.before l ge (states_at ts u) (found.satisfied.others_at u ne))
+    (before_level t ts s found.satisfied l lt)
+  where
+    earlier : kept l t.steps ≤ suc s.place
+    earlier = elim (cases_lt s.place (kept l t.steps)) [
+      | inl less ↦ absurd (let low = past_end l s.place t.steps less in let is = found.satisfied.level in
+          omega (arith, lt, low, is))
+      | inr le ↦ omega (arith, le)
+    ]
+
+    some : 0 < space_of t s.vertex
+    some = let here = found.opens.some in
+        omega (arith, here, size-le (set_of (end_sets t s.before) s.vertex), found.opens.ends)
 
 -- no lower level has one open term: at the satisfier's vertex, the others would be satisfied before the level where
 -- they came to be; elsewhere, all would be satisfied at that level, below the trail's own

@@ -1,5 +1,6 @@
 -- What the resolution of a conflict finds, learns and leaves (Dart pub's `solver.md`, "Conflict Resolution").
 use Rattle.std.specs.Prelude.{◌≡◌, ℕ, suc, ◌+◌, ◌-◌, true, ◌<◌, ◌≤◌, ◌⊎◌, List, [], ◌∷◌, ◌++◌, length, Option, Some, None}
+use Rattle.std.specs.Prelude.{cond, nat_lt}
 use Rattle.version_sets.specs.Sets.{Members}
 use Rattle.incompatibilities.specs.Incompatibilities.{IsIncompatibility, LiesIn, states_at}
 use Rattle.terms.specs.Terms.{TermView}
@@ -118,8 +119,12 @@ pub record IsGained (old : List EntryView) (t : TrailView) (new gained : List En
   pub learned : (id : ℕ) → length old ≤ id → id < length new → ¬ IsAxiom (entry new id).origin
   pub quiet : Quiet old t t.level → Quiet new t t.level
 
+-- a jump back is of at most so many levels
+abbrev pub farthest : ℕ
+farthest = 20
+
 -- the learned entry follows; the trail is cut to a level below its own, where one term of the entry is open and all
--- others are satisfied, and no lower level has that
+-- others are satisfied, and no lower level has that unless it is farther than a jump goes
 pub record IsLearned (t : TrailView) (es : List EntryView) (new : TrailView) (id back_to : ℕ) : Type 0 where
   pub within : id < length es
   pub follows : Follows es (terms_of es id)
@@ -129,7 +134,8 @@ pub record IsLearned (t : TrailView) (es : List EntryView) (new : TrailView) (id
   pub vertex : ℕ
   pub states : Members
   pub one : IsOneOpen new.sets (terms_of es id) vertex states
-  pub least : (l : ℕ) → l < back_to → (v : ℕ) (x : Members) → ¬ IsOneOpen (end_sets t l) (terms_of es id) v x
+  pub least : (back_to + farthest ≤ t.level)
+      ⊎ ((l : ℕ) → l < back_to → (v : ℕ) (x : Members) → ¬ IsOneOpen (end_sets t l) (terms_of es id) v x)
 
 -- the entry has no term, and follows; the trail stays
 pub record IsRefuted (t : TrailView) (es : List EntryView) (new : TrailView) (id : ℕ) : Type 0 where
@@ -148,7 +154,12 @@ Teaches es t (Learned id back_to) = (back_to ≤ t.level)
     × ((new : TrailView) (gone : List StepView) → IsCut back_to t new gone → IsLearned t es new id back_to)
 Teaches es t (Unsolvable id) = IsRefuted t es t id
 
+-- the level that a jump goes back to, from a satisfier: where the other terms came to be satisfied, or the last but so
+-- many
+abbrev pub level_for : Satisfier → ℕ
+level_for s = cond (nat_lt s.before (s.level - farthest)) (s.level - farthest) s.before
+
 -- the outcome where it ended at a satisfier
 abbrev pub outcome_of : ℕ → Option Satisfier → Outcome
 outcome_of id None = Unsolvable id
-outcome_of id (Some s) = Learned id s.before
+outcome_of id (Some s) = Learned id (level_for s)

@@ -1,6 +1,6 @@
 //! Learning from a satisfied incompatibility, and going back (Dart pub's `solver.md`, "Conflict Outcome").
 
-ghost use Rattle.conflicts.specs.Resolving.{IsGained, Resolved, Teaches, outcome_of};
+ghost use Rattle.conflicts.specs.Resolving.{IsGained, Resolved, Teaches, level_for, outcome_of};
 ghost use Rattle.incompatibilities.specs.Stores.{EntryView, Follows, entries_view, terms_of};
 ghost use Rattle.propagation.specs.Promises.{IsTrail, SameSpaces};
 ghost use Rattle.propagation.specs.Satisfaction.{Sat};
@@ -18,8 +18,8 @@ use version_sets::States;
 /// How the resolution of a conflict ends.
 #[derive(Clone, Copy, PartialEq, Eq, Debug)]
 pub enum Outcome {
-    /// An incompatibility was learned, and the trail was cut to the lowest level where all its terms but one are
-    /// satisfied; that one is open, so the next propagation forces an assignment.
+    /// An incompatibility was learned, and the trail was cut to a level where all its terms but one are satisfied, and
+    /// that one is open, so the next propagation forces an assignment: the lowest such level, unless it is far.
     Learned {
         /// Its place in the store.
         id: Id,
@@ -38,6 +38,21 @@ fn follow<S: States + Drop>(store: &Store<S>, id: Id)
     let _ = store.get(id);
 }
 
+/// A jump back is of at most so many levels. What lies between is seldom wrong, and would be decided again.
+const FARTHEST: usize = 20;
+
+/// The level that a jump goes back to, from a satisfier.
+fn level_for(satisfier: &Satisfier) -> usize
+    ensures { result ≡ level_for satisfier.now }
+{
+    let last = satisfier.level.saturating_sub(FARTHEST);
+    if satisfier.before < last {
+        last
+    } else {
+        satisfier.before
+    }
+}
+
 /// The outcome where it ended at a satisfier.
 fn ended_at(learned: Id, found: Option<Satisfier>) -> Outcome
     ensures { result ≡ outcome_of learned found }
@@ -45,7 +60,7 @@ fn ended_at(learned: Id, found: Option<Satisfier>) -> Outcome
     match found {
         Some(satisfier) => Outcome::Learned {
             id: learned,
-            back_to: satisfier.before,
+            back_to: level_for(&satisfier),
         },
         None => Outcome::Unsolvable(learned),
     }
@@ -77,7 +92,7 @@ fn resolve<S: States + Drop>(
     Ok(ended_at(learned, found))
 }
 
-/// Learns from a satisfied entry: resolves the conflict, and cuts the trail to the level at which all terms of what was
+/// Learns from a satisfied entry: resolves the conflict, and cuts the trail to a level at which all terms of what was
 /// learned but one were satisfied. The store gains what was learned, if it had no such entry, and what on the way was
 /// short or served to leave out what holds at level 0.
 ///
