@@ -1,6 +1,6 @@
 -- How many combinations the chains of a store have, as it gains entries.
 use Rattle.std.proofs.Common.{◌≡◌, ℕ, zero, suc, ◌+◌, ◌<◌, ◌≤◌, ◌⊎◌, List, [], ◌∷◌, ◌++◌, length, take}
-use Rattle.std.proofs.Common.{refl, ap, ◌∙◌, subst, arith, inl, inr}
+use Rattle.std.proofs.Common.{refl, ap, ◌∙◌, arith, inl, inr}
 use Rattle.std.proofs.lemmas.List.{take-append-le}
 use Rattle.incompatibilities.specs.Stores.{EntryView, IsAxiom, entry}
 use Rattle.incompatibilities.specs.declared.origin.Origin.{Origin}
@@ -56,13 +56,6 @@ pub counted_more : (a b steps count more links base : ℕ) → b ≡ a + links
 counted_more a b steps count more links base is (inl le) (inl fits) up = inl (omega (arith, is, le, fits))
 counted_more a b steps count more links base is (inl le) (inr all) up = inr all
 counted_more a b steps count more links base is (inr all) fits up = inr (omega (arith, all, up))
-
-pub counted_all : (es : List EntryView) (n steps count base : ℕ) → n ≡ length es
-    → (combinations (take n es) + steps ≤ count + base) ⊎ (most ≤ count)
-    → (combinations es + steps ≤ count + base) ⊎ (most ≤ count)
-counted_all es n steps count base is =
-    subst (λ (xs : List EntryView). (combinations xs + steps ≤ count + base) ⊎ (most ≤ count))
-    (ap (λ k. take k es) is ∙ take_all es)
 
 -- learned entries are gained, and the steps count their combinations
 pub counts_gained : (old new gained : List EntryView) (steps after from : ℕ) → new ≡ old ++ gained → from ≡ length old

@@ -12,7 +12,7 @@ use Rattle.incompatibilities.specs.declared.origin.Origin.TheVariants.{Axiom}
 use Rattle.propagation.specs.Satisfaction.{IsQuiet, Sat}
 use Rattle.propagation.specs.Trails.{Above, StepView, TrailView, end_sets, no_step, past, set_of, sets_at, space_of, step_at}
 use Rattle.propagation.specs.Trails.{total, undo}
-use Rattle.propagation.specs.Promises.{IsDecided, IsSound, IsTrail, Levels, LieIn, Propagated, IsProgress}
+use Rattle.propagation.specs.Promises.{IsDecided, IsSound, IsTrail, LieIn, Propagated, IsProgress}
 use Rattle.propagation.specs.declared.propagating.Progress.{Progress}
 use Rattle.propagation.specs.declared.propagating.Progress.TheVariants.{Conflict, Fixpoint}
 use Rattle.propagation.proofs.LevelLemmas.{place_low}
@@ -374,25 +374,3 @@ turn_axioms asked left fewer late es old new next added fall quiet caught less p
     gone asked left fewer late old new es next trail p.stops (start_same new old added p.steps p.back) fell.0
     (quiet_same es old new level same quiet) (caught_same asked asked old new level same (λ v i h. h) caught)
     (omega (arith, not_more, less))
-
--- ---- the start: from a trail without assignments a propagation leads to a search
-pub first_turn : (late : ℕ) (es : List EntryView) (old new : TrailView) (next : Progress) (added : List StepView)
-    (asked : Pairs) → IsTrail es old → old.steps ≡ [] → Propagated es old new next added → IsTrail es new
-    → IsSearching late es new next × IsCaught asked new
-first_turn late es old new next added asked was none p trail =
-    let zero_level : new.level ≡ 0 = p.level ∙ sym (subst (λ ss. Levels 0 ss old.level) none was.sound.levels) in
-    let start : sets_at new 0 ≡ old.sets =
-    start_same new old added p.steps p.back ∙ ap (λ ss. undo (drop 0 ss) old.sets) none in
-    let now : end_sets new 0 ≡ new.sets = ap (end_sets new) (sym zero_level) ∙ end_top new p.top in (
-      record {
-        trail = trail;
-        falling = record {
-          first = (let spent = p.spent in omega (arith, spent, ap total start, ap total now));
-          falls = λ l lt. absurd (omega (arith, lt, zero_level));
-          top = p.top;
-        };
-        quiet = λ l lt. absurd (omega (arith, lt, zero_level));
-        stops = p.stops;
-      },
-      λ l lt. absurd (omega (arith, lt, zero_level)),
-    )

@@ -1,6 +1,6 @@
 -- What brings the number down.
-use Rattle.std.proofs.Common.{◌≡◌, ℕ, zero, suc, ◌+◌, ◌*◌, ◌^◌, ◌<◌, ◌≤◌, List, [], ◌∷◌, ◌++◌, ◌-◌, length, get_or}
-use Rattle.std.proofs.Common.{refl, arith}
+use Rattle.std.proofs.Common.{ℕ, zero, suc, ◌+◌, ◌*◌, ◌^◌, ◌<◌, ◌≤◌, List, [], ◌∷◌, ◌++◌, ◌-◌, length, get_or}
+use Rattle.std.proofs.Common.{arith}
 use Rattle.std.proofs.lemmas.Nat.{mul-le}
 use Rattle.std.proofs.Math.Nat.{pow-suc, pow-zero}
 use Rattle.searching.specs.Measures.{Falling, weigh, measure_of}
@@ -66,24 +66,8 @@ unfolding measure_of
 measure_longer s front y new f = weigh_longer s (suc s) (s + 1) front y new
     (let k = short_front (s + 1) front y new f in omega (arith, k)) (omega arith) f
 
-last_of : (x z : ℕ) (xs : List ℕ) (d : ℕ)
-    → get_or (x ∷ z ∷ xs) (length (x ∷ z ∷ xs) - 1) d ≡ get_or (z ∷ xs) (length (z ∷ xs) - 1) d
-last_of x z xs d = let e : length (x ∷ z ∷ xs) - 1 ≡ suc (length (z ∷ xs) - 1) = omega arith in rw e refl
-
--- a list that ends with a place, and one more that is less
-pub falling_push : (b : ℕ) (xs : List ℕ) (d y : ℕ) → Falling b xs → 0 < length xs → y < get_or xs (length xs - 1) d
-    → Falling b (xs ++ y ∷ [])
-falling_push b [] d y f some lt = absurd (omega (arith, some))
-falling_push b (x ∷ []) d y f some lt = (f.0, (lt, tt))
-falling_push b (x ∷ z ∷ xs) d y f some lt =
-    (f.0, falling_push x (z ∷ xs) d y f.1 (omega arith) (rw (last_of x z xs d) at lt))
-
 pub lower_first : (s : ℕ) (xs : List ℕ) (d : ℕ) → Falling (s + 1) xs → 0 < length xs → 0 < get_or xs 0 d
     → measure_of s ((get_or xs 0 d - 1) ∷ []) < measure_of s xs
 lower_first s [] d f some lt = absurd (omega (arith, some))
 lower_first s (x ∷ xs) d f some lt =
     measure_lower s [] x (x - 1) xs [] (omega (arith, lt)) (let g = f.0 in (omega (arith, g), tt))
-
-pub falling_first : (b : ℕ) (xs : List ℕ) (d : ℕ) → Falling b xs → 0 < length xs → get_or xs 0 d < b
-falling_first b [] d f some = absurd (omega (arith, some))
-falling_first b (x ∷ xs) d f some = f.0

@@ -275,17 +275,6 @@ pub record IsUnrolling (es : List EntryView) (fs : List FlatView) (ms : List Boo
   pub few_combined : combined_in fs ≤ combinations (take n es)
   pub few_given : given_of fs ≤ axioms (take n es)
 
-pub unrolling_none : (es : List EntryView) (ms : List Bool) (fs : List FlatView) (places : List ℕ) → fs ≡ []
-    → places ≡ [] → IsUnrolling es fs ms 0 places
-unrolling_none es ms fs places none empty = record {
-  founded = λ k lt. absurd (omega (arith, lt, ap length none));
-  placed = λ id lt h. absurd (omega (arith, lt));
-  long = ap length empty;
-  ends = λ k e h. absurd (omega (arith, e));
-  few_combined = omega (arith, ap combined_in none);
-  few_given = omega (arith, ap given_of none);
-}
-
 place_kept : (places : List ℕ) (p k : ℕ) → k < length places → get_or (places ++ p ∷ []) k 0 ≡ get_or places k 0
 place_kept places p k lt = get_or_append_left places (p ∷ []) 0 k lt
 
