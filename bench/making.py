@@ -15,6 +15,7 @@ CRATES_IO = "registry+https://github.com/rust-lang/crates.io-index"
 # bytes of stack that each run has, if no other is asked for
 STACK = 2**20
 FILES = ["--manifest", "Cargo.toml", "--index", "index"]
+CASES = "crates/worked_cases/data/cases"
 
 
 # ---- texts
@@ -82,6 +83,25 @@ def step(reason, terms):
     return json.dumps({key: reason, "terms": terms}, separators=(",", ":")) + "\n"
 
 
+# ---- worked cases
+
+def commands_of(session):
+    """The commands of a session as words, where `''` is an empty one."""
+    for line in session.splitlines():
+        if line.startswith("$ "):
+            yield ["" if it == "''" else it for it in line[2:].split()]
+
+
+def option(words, name):
+    """The value of an option in either spelling, if it is there."""
+    for at, word in enumerate(words):
+        if word.startswith(f"{name}="):
+            return word[len(name) + 1:]
+        if word == name and at + 1 < len(words):
+            return words[at + 1]
+    return None
+
+
 # ---- files
 
 def write(path, text):
@@ -128,16 +148,19 @@ def shortened(text):
     return repr(text) if len(text) < 300 else f"{text[:120]!r} .. {text[-120:]!r} ({len(text)} bytes)"
 
 
-def limits(stack, memory):
+def limits(stack, memory, processor):
     def begin():
         resource.setrlimit(resource.RLIMIT_STACK, (stack, stack))
         if memory is not None:
             resource.setrlimit(resource.RLIMIT_AS, (memory, memory))
+        if processor is not None:
+            resource.setrlimit(resource.RLIMIT_CPU, (processor, processor))
     return begin
 
 
-def run(words, at=None, longest=600, stack=STACK, memory=None, **env):
-    """Runs the program in a folder. A run that takes more seconds is ended, and has no status.
+def run(words, at=None, longest=600, stack=STACK, memory=None, processor=None, **env):
+    """Runs the program in a folder. A run that takes more seconds is ended, and has no status but words that say so;
+    so is one that takes more processor seconds than it may.
 
     It is started by `time`, a small program: what this one has in memory would count as the other's, since a process
     keeps the most memory that it had before it became another program.
@@ -147,7 +170,7 @@ def run(words, at=None, longest=600, stack=STACK, memory=None, **env):
         timed = ["/usr/bin/time", "-q", "-o", usage.name, "-f", "%U %S %M"]
         timed += ["env", *[f"{name}={value}" for name, value in env.items()], *words] if env else words
         child = subprocess.Popen(timed, cwd=at, stdin=subprocess.DEVNULL, stdout=out, stderr=err,
-                                 start_new_session=True, preexec_fn=limits(stack, memory))
+                                 start_new_session=True, preexec_fn=limits(stack, memory, processor))
         signal.signal(signal.SIGALRM, lambda *_: os.killpg(child.pid, signal.SIGKILL))
         signal.alarm(longest)
         status = child.wait()
@@ -192,6 +215,29 @@ class Tally:
     def end(self):
         print(f"{self.well} as promised, {self.wrong} not")
         sys.exit(1 if self.wrong else 0)
+
+
+# ---- Cargo
+
+def by_cargo(problem, made, has_old=False, processor=None):
+    """How Cargo ends over the Cargo.toml and the index of a folder, in a folder of its own, and the lock that it wrote.
+
+    The index is a local registry to it. If there is an old lock, it keeps what it can of that folder's Cargo.lock.
+    """
+    demo = f"{made}/demo"
+    write(f"{demo}/src/lib.rs", "")
+    write(f"{demo}/.cargo/config.toml",
+          f'[source.crates-io]\nreplace-with = "local"\n[source.local]\nlocal-registry = "{made}/registry"\n')
+    shutil.copy(f"{problem}/Cargo.toml", demo)
+    shutil.copytree(f"{problem}/index", f"{made}/registry/index")
+    if has_old:
+        shutil.copy(f"{problem}/Cargo.lock", demo)
+    ask = ["update", "--workspace"] if has_old else ["generate-lockfile"]
+    ended = run(["cargo", *ask, "--offline"], demo, stack=8 << 20, processor=processor, CARGO_HOME=f"{made}/home")
+    if ended.status != 0:
+        return ended, None
+    with open(f"{demo}/Cargo.lock", encoding="utf-8") as it:
+        return ended, it.read()
 
 
 # ---- programs of their own
