@@ -72,6 +72,7 @@ impl Names {
         requires { list_any (same_text name) self.old.keys ≡ false }
         ensures keys { OnOk result (self.new.keys ≡ self.old.keys ++ name ∷ []) }
     {
+        // What the name's type promises of its text is known from here on.
         name.as_str();
         let key = name.clone()?;
         self.list.reserve(1)?;

@@ -39,7 +39,7 @@ fn follow<S: States + Drop>(store: &Store<S>, id: Id)
 }
 
 /// A jump back is of at most so many levels. What lies between is seldom wrong, and would be decided again.
-const FARTHEST: usize = 20;
+pub const FARTHEST: usize = 20;
 
 /// The level that a jump goes back to, from a satisfier.
 fn level_for(satisfier: &Satisfier) -> usize

@@ -327,10 +327,11 @@ impl<'a, S: States + Drop> Guide<S> for Encoded<'a, S> {
     fn noted(
         &mut self,
         trail: &Trail<S>,
-        _store: &Store<S>,
-        _conflict: Id,
-        _learned: Id,
+        store: &Store<S>,
+        conflict: Id,
+        learned: Id,
     ) -> Result<(), AllocError> {
+        self.order.jumped(trail.level(), store, conflict, learned)?;
         // What was seen at places that were cut may stand otherwise when they are filled again.
         self.order.cut(trail.places())?;
         if trail.places() < self.seen {

@@ -7,12 +7,12 @@
 //! (`numbering`). How many states are still to come, and how many pairs weren't asked for, by which the loop ends, is
 //! counted over the finite list of all vertices (`specs/Everything`), by the proof alone.
 //!
-//! What is decided is the first vertex, by number, that can't be absent and has several states left (`order.rt`). It
-//! takes its state in the valid selection that is followed, if one is; else that of the most preferred candidate that
-//! is left (`preferring.rt`), or of a vertex without candidates the greatest. The instances of that pair, and those of
-//! the vertices with one state beside `absent` that it needs, are asked for before (`leads.rt`), so that a version
-//! which they leave out at once opens no level. The contract asks only for a state that is left, so another preference
-//! changes no proof.
+//! What is decided is, of the vertices that can't be absent and have several states left, that which had a part in most
+//! far jumps, the first by number (`order.rt`). It takes its state in the valid selection that is followed, if one is;
+//! else that of the most preferred candidate that is left (`preferring.rt`), or of a vertex without candidates the
+//! greatest. The instances of that pair, and those of the vertices with one state beside `absent` that it needs, are
+//! asked for before (`leads.rt`), so that a version which they leave out at once opens no level. The contract asks only
+//! for a state that is left, so another preference changes no proof.
 //!
 //! A layer above may rely on this: the search ends where each vertex, taken `absent` if that is left, else in its one
 //! state, breaks no instance of an axiom; or with an entry without terms, from entries that are instances of their

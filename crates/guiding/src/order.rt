@@ -1,10 +1,15 @@
-//! Which vertex is decided next: the first undecided one by number.
+//! Which vertex is decided next: of the undecided ones that which had a part in most far jumps, the first by number.
+//!
+//! A far jump is as far as `conflicts` makes one. It undoes many levels that its conflict wasn't about, and they are
+//! decided again. Where what it was about is decided before them, the next such conflict comes soon, and is near.
 
 ghost use Rattle.std.specs.Prelude.{◌≡◌, length};
 ghost use Rattle.propagation.specs.Promises.{IsSound};
 ghost use Rattle.propagation.specs.Trails.{trail_view};
 
 use crate::choosing::is_undecided;
+use conflicts::FARTHEST;
+use incompatibilities::{Id, Origin, Store};
 use propagation::Trail;
 use std::alloc::{AllocError, Global};
 use std::collections::BinaryHeap;
@@ -21,22 +26,36 @@ struct Taken {
 /// only helps to find one soon: nothing rests on what it says.
 #[derive(Drop)]
 pub(crate) struct Order {
-    /// How far the number of each is from the greatest one, so the first vertex is the greatest candidate.
-    candidates: BinaryHeap<usize>,
+    /// Of each the far jumps, and how far its number is from the greatest one, so that the greatest comes first. One
+    /// that had a part in more since is passed over: it is there with these too.
+    candidates: BinaryHeap<(u64, usize)>,
     /// Whether each vertex is a candidate; false past the end.
     waiting: Vec<bool>,
+    /// In how many far jumps each vertex had a part; 0 past the end.
+    jumps: Vec<u64>,
+    /// The level that the next decision opens.
+    level: usize,
     /// The latest last.
     taken: Vec<Taken>,
     /// Of so many places of the trail the vertex was looked at.
     followed: usize,
 }
 
-/// Makes flags for the vertices up to one.
-fn reach(flags: &mut Vec<bool>, vertex: usize) -> Result<(), AllocError> {
-    'vertices: while flags.len() <= vertex {
-        flags.push(false)?;
+/// Makes values for the vertices up to one.
+fn reach<T: Copy>(values: &mut Vec<T>, vertex: usize, first: T) -> Result<(), AllocError> {
+    'vertices: while values.len() <= vertex {
+        values.push(first)?;
     }
     Ok(())
+}
+
+/// Where an entry came from, if the store has it.
+fn origin_of<S: States + Drop>(store: &Store<S>, id: Id) -> Option<&Origin> {
+    if id.index() < store.len() {
+        Some(store.origin(id))
+    } else {
+        None
+    }
 }
 
 impl Order {
@@ -45,6 +64,8 @@ impl Order {
         Order {
             candidates: BinaryHeap::new(alloc),
             waiting: Vec::new(alloc),
+            jumps: Vec::new(alloc),
+            level: 0,
             taken: Vec::new(alloc),
             followed: 0,
         }
@@ -77,20 +98,47 @@ impl Order {
     ) -> Result<Option<usize>, AllocError>
         requires { vertices ≡ length (trail_view S.tests trail.now).sets }
     {
-        'candidates: while let Some(from_end) = self.candidates.pop() {
+        self.level = trail.level().saturating_add(1);
+        'candidates: while let Some((jumps, from_end)) = self.candidates.pop() {
             let vertex = usize::MAX - from_end;
-            if let Some(waiting) = self.waiting.get_mut(vertex) {
-                *waiting = false;
+            if jumps == self.jumps_of(vertex) {
+                if let Some(waiting) = self.waiting.get_mut(vertex) {
+                    *waiting = false;
+                }
+                if vertex < vertices && is_undecided(trail.states(vertex)) {
+                    // It stays one until it is decided.
+                    self.put(vertex)?;
+                    return Ok(Some(vertex));
+                }
+                let places = trail.places();
+                self.taken.push(Taken { vertex, places })?;
             }
-            if vertex < vertices && is_undecided(trail.states(vertex)) {
-                // It stays one until it is decided.
-                self.put(vertex)?;
-                return Ok(Some(vertex));
-            }
-            let places = trail.places();
-            self.taken.push(Taken { vertex, places })?;
         }
         Ok(None)
+    }
+
+    /// Looks at a jump back to a level, after a conflict that taught an entry: if it is far, all that the conflict was
+    /// about had a part in it.
+    pub(crate) fn jumped<S: States + Drop>(
+        &mut self,
+        level: usize,
+        store: &Store<S>,
+        conflict: Id,
+        learned: Id,
+    ) -> Result<(), AllocError> {
+        let jump = self.level.saturating_sub(level);
+        self.level = level;
+        if jump < FARTHEST {
+            return Ok(());
+        }
+        self.raise_at(store, learned)?;
+        self.raise_at(store, conflict)?;
+        if let Some(Origin::Learned(chain)) = origin_of(store, learned) {
+            'links: for link in chain.links() {
+                self.raise_at(store, link.with)?;
+            }
+        }
+        self.shed()
     }
 
     /// Gives back what was taken when the trail had more places than are left of it: it may be undecided again.
@@ -108,19 +156,75 @@ impl Order {
         Ok(())
     }
 
+    /// Counts a far jump for each vertex that an entry speaks of.
+    fn raise_at<S: States + Drop>(&mut self, store: &Store<S>, id: Id) -> Result<(), AllocError> {
+        if id.index() >= store.len() {
+            return Ok(());
+        }
+        'terms: for term in store.get(id).terms() {
+            self.raise(term.vertex)?;
+        }
+        Ok(())
+    }
+
+    /// Counts a far jump for a vertex.
+    fn raise(&mut self, vertex: usize) -> Result<(), AllocError> {
+        reach(&mut self.jumps, vertex, 0)?;
+        if let Some(jumps) = self.jumps.get_mut(vertex) {
+            *jumps = jumps.saturating_add(1);
+        }
+        if self.is_waiting(vertex) {
+            self.push(vertex)?;
+        }
+        Ok(())
+    }
+
+    /// Leaves out what is passed over, once that is the most.
+    fn shed(&mut self) -> Result<(), AllocError> {
+        if self.candidates.len() / 2 <= self.waiting.len() {
+            return Ok(());
+        }
+        self.candidates.clear();
+        'vertices: for vertex in 0..self.waiting.len() {
+            if self.is_waiting(vertex) {
+                self.push(vertex)?;
+            }
+        }
+        Ok(())
+    }
+
+    fn is_waiting(&self, vertex: usize) -> bool {
+        matches!(self.waiting.get(vertex), Some(true))
+    }
+
+    fn jumps_of(&self, vertex: usize) -> u64 {
+        match self.jumps.get(vertex) {
+            Some(jumps) => *jumps,
+            None => 0,
+        }
+    }
+
+    fn push(&mut self, vertex: usize) -> Result<(), AllocError>
+        ensures followed { self.new.followed ≡ self.old.followed }
+        ensures taken { self.new.taken ≡ self.old.taken }
+    {
+        let jumps = self.jumps_of(vertex);
+        self.candidates.push((jumps, usize::MAX - vertex))?;
+        Ok(())
+    }
+
     /// One candidate more, unless it is one.
     fn put(&mut self, vertex: usize) -> Result<(), AllocError>
         ensures followed { self.new.followed ≡ self.old.followed }
         ensures taken { self.new.taken ≡ self.old.taken }
     {
-        reach(&mut self.waiting, vertex)?;
+        reach(&mut self.waiting, vertex, false)?;
         if let Some(waiting) = self.waiting.get_mut(vertex) {
             if *waiting {
                 return Ok(());
             }
             *waiting = true;
         }
-        self.candidates.push(usize::MAX - vertex)?;
-        Ok(())
+        self.push(vertex)
     }
 }

@@ -2,4 +2,4 @@ use Rattle.std.proofs.Common.{length, ◌-◌, ◌+◌}
 use Rattle.guiding.proofs.order.reach.Given as goal
 
 abbrev pub decreases-vertices : goal.decreases-vertices
-decreases-vertices l = l.vertex + 1 - length l.flags.items
+decreases-vertices g l = l.vertex + 1 - length l.values.items
