@@ -69,9 +69,9 @@ check_app = with_rules (new_app (codes "check"))
 abbrev pub explain_app : App
 explain_app = with_rules (new_app (codes "explain")) (required proof_option ∷ [])
 
--- one command has to be named
+-- one command has to be named; the version can be asked for
 abbrev pub bare_app : App
-bare_app = on_top (λ s. record s { subcommand_required = true }) (new_app (codes "relock"))
+bare_app = on_top (λ s. record s { subcommand_required = true; has_version = true }) (new_app (codes "relock"))
 
 -- the whole program
 abbrev pub relock_app : App

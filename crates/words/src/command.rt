@@ -9,12 +9,16 @@ ghost use Rattle.words.specs.Asked.{relock_app};
 use clap::{Arg, ArgAction, Command};
 use std::alloc::{AllocError, Global};
 
+/// The version of the program.
+const VERSION: &str = "0.1.0";
+
 /// The whole program: one command is required, each option stands at most once, and there are no positional words.
 pub(crate) fn relock<'a>(alloc: Global) -> Result<Command<'a>, AllocError>
     ensures { IfOk result (λ c. app_of c ≡ relock_app) }
 {
     let program = Command::new(alloc, "relock")
         .about("Resolves Cargo manifests, verifies their locks and checks refusals")
+        .version(VERSION)
         .subcommand_required(true);
     let program = with_command(program, resolve(alloc)?)?;
     let program = with_command(program, verify(alloc)?)?;
