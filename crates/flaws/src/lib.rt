@@ -10,8 +10,9 @@
 //! What is told is there as values too (`flaws_of`, `lacking_features`, `why_missing`), for who tells it otherwise than
 //! in sentences.
 //!
-//! Of a package that is no candidate only why it is none is told, for nobody knows what it needs. That a package at
-//! fault is yanked is told too, though that is no fault.
+//! Of a package that is no candidate only why it is none is told, for nobody knows what it needs. So nobody knows
+//! either whether what its list has is needed: such packages are counted. That a package at fault is yanked is told
+//! too, though that is no fault.
 //!
 //! A layer above may rely on this: `flaws_of` gives just the packages at which a condition fails, in the order of the
 //! lock, each with just what is wrong there; none of them exactly where the lock is a valid selection. Of the sentences
@@ -35,7 +36,7 @@ pub use feature_sentences::{Lacking, lacking_features};
 pub use flawed::Flawed;
 pub use judging::{Judged, flaws_of};
 pub use list_sentences::dependency_at;
-pub use missing_version::{MissingVersion, why_missing};
+pub use missing_version::{MissingTold, MissingVersion, listed_in, why_lost, why_missing};
 pub use naming::last_serving;
 pub use no_candidate::NoCandidate;
 pub use sentences::{has_metadata, tell_flaws};

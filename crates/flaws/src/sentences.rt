@@ -4,8 +4,9 @@ use crate::feature_sentences::push_lacking;
 use crate::flawed::Flawed;
 use crate::judging::flaws_of;
 use crate::list_sentences::{push_surplus, push_unmet};
+use crate::missing_version::listed_in;
 use crate::naming::Named;
-use crate::versions::{Registry, push_no_candidate};
+use crate::versions::{Registry, Told, push_no_candidate};
 use catalogue::Catalogue;
 use index_reader::{Folder, FolderFault};
 use lacks::out_of_memory;
@@ -72,7 +73,7 @@ fn push_rootless(
     text.push_str("\n")
 }
 
-/// All that is wrong with packages.
+/// All that is wrong with packages, and how many can't be judged.
 fn push_all<F: Folder>(
     text: &mut String,
     registry: Registry<'_>,
@@ -80,16 +81,34 @@ fn push_all<F: Folder>(
     packages: &[Flawed],
     folder: &mut F,
 ) -> Result<(), FolderFault> {
+    let listed = listed_in(registry.alloc, findings.content, packages).map_err(out_of_memory)?;
+    let mut unjudged: u64 = 0;
     for flawed in packages.iter() {
         if let Some(package) = findings.content.get(flawed.place) {
+            let is_listed = listed.get(flawed.place) == Some(&true);
             if let Some(why) = flawed.no_candidate {
-                push_no_candidate(text, registry, package, why, folder)?;
+                match push_no_candidate(text, registry, package, is_listed, why, folder)? {
+                    Told::Reason => {}
+                    Told::Nothing => unjudged = unjudged.saturating_add(1),
+                }
             }
             push_others(text, registry.alloc, findings, package, flawed).map_err(out_of_memory)?;
             push_yanked(text, registry.catalogue, package).map_err(out_of_memory)?;
         }
     }
-    Ok(())
+    push_unjudged(text, unjudged).map_err(out_of_memory)
+}
+
+/// How many packages stand only on lists of packages that are no candidates.
+fn push_unjudged(text: &mut String, count: u64) -> Result<(), AllocError> {
+    match count {
+        0 => Ok(()),
+        1 => text.push_str("1 package can't be judged: what lists it isn't known to need it\n"),
+        _ => writeln!(
+            text,
+            "{count} packages can't be judged: what lists them isn't known to need them"
+        ),
+    }
 }
 
 /// What is wrong with a package beside that it is no candidate. Of one that is none nobody knows what it needs, so that

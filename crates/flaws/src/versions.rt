@@ -1,6 +1,6 @@
 //! The sentences that tell why a package is no candidate: its source, its version or its checksum.
 
-use crate::missing_version::{MissingVersion, why_missing};
+use crate::missing_version::{MissingTold, MissingVersion, why_missing};
 use crate::naming::Named;
 use crate::no_candidate::NoCandidate;
 use catalogue::Catalogue;
@@ -17,22 +17,34 @@ pub(crate) struct Registry<'a> {
     pub(crate) has_metadata: bool,
 }
 
+/// Whether it was told why a package is no candidate.
+#[derive(Clone, Copy, Debug, PartialEq, Eq)]
+pub(crate) enum Told {
+    Reason,
+    /// It stands on a list of one that is none either, so nobody knows whether it is needed.
+    Nothing,
+}
+
 /// Why a package is no candidate. The folder is asked for the file of a version that isn't there.
 pub(crate) fn push_no_candidate<F: Folder>(
     text: &mut String,
     registry: Registry<'_>,
     package: &Package,
+    is_listed: bool,
     why: NoCandidate,
     folder: &mut F,
-) -> Result<(), FolderFault> {
+) -> Result<Told, FolderFault> {
     let told = match why {
         NoCandidate::NoSource => push_no_source(text, package),
         NoCandidate::OtherSource => push_other_source(text, registry.catalogue, package),
-        NoCandidate::NoVersion => return push_no_version(text, registry, package, folder),
+        NoCandidate::NoVersion => {
+            return push_no_version(text, registry, package, is_listed, folder);
+        }
         NoCandidate::NoChecksum => push_no_checksum(text, package, registry.has_metadata),
         NoCandidate::OtherChecksum => push_other_checksum(text, registry, package),
     };
-    told.map_err(out_of_memory)
+    told.map_err(out_of_memory)?;
+    Ok(Told::Reason)
 }
 
 fn push_no_source(text: &mut String, package: &Package) -> Result<(), AllocError> {
@@ -90,36 +102,21 @@ fn push_other_checksum(
     }
 }
 
-/// Why the index has no candidate of a package's version.
+/// `log 0.4.30: this index has no such version; the newest is 0.4.20`.
 fn push_no_version<F: Folder>(
     text: &mut String,
     registry: Registry<'_>,
     package: &Package,
+    is_listed: bool,
     folder: &mut F,
-) -> Result<(), FolderFault> {
+) -> Result<Told, FolderFault> {
+    let name = &package.name;
     let why = why_missing(registry.alloc, registry.catalogue, package, folder)?;
-    push_missing(text, package, &why).map_err(out_of_memory)
-}
-
-/// `log 0.4.30: this index has no such version; the newest is 0.4.20`.
-fn push_missing(
-    text: &mut String,
-    package: &Package,
-    why: &MissingVersion,
-) -> Result<(), AllocError> {
-    let Package { name, version, .. } = package;
-    write!(text, "{name} {version}: ")?;
-    match why {
-        MissingVersion::Unasked => writeln!(text, "nothing depends on {name}"),
-        MissingVersion::NoPackage => writeln!(text, "there is no package {name} in this index"),
-        MissingVersion::Skipped(line, reason) => writeln!(
-            text,
-            "line {line} of {name} in this index is skipped ({reason})"
-        ),
-        MissingVersion::NoLine(Some(newest)) => writeln!(
-            text,
-            "this index has no such version; the newest is {newest}"
-        ),
-        MissingVersion::NoLine(None) => text.push_str("this index has no such version\n"),
+    if is_listed && matches!(why, MissingVersion::Unasked) {
+        return Ok(Told::Nothing);
     }
+    let package = Named(package);
+    let missing = MissingTold { name, why: &why };
+    writeln!(text, "{package}: {missing}").map_err(out_of_memory)?;
+    Ok(Told::Reason)
 }

@@ -2,7 +2,7 @@
 //!
 //! A loaded index has candidates alone, neither yanked lines nor those that can't be used. So the folder is asked once
 //! more for the file of a dependency that no candidate fits (`index_file`), and what that has is the reason (`lack`);
-//! where there is no file, it is asked for names that differ in `-` and `_` alone (`missing`). A dependency that some
+//! where nothing of it can be used, it is asked for names that differ by a slip (`slips`). A dependency that some
 //! candidate fits may only lack a feature, for which one of nearly the same name may be told (`similar`).
 //!
 //! What is told is there as a value too (`look_for`, `nothing_fits`), for who tells it otherwise than in sentences; and
@@ -19,6 +19,7 @@ mod missing;
 mod reason;
 mod sentences;
 mod similar;
+mod slips;
 
 pub use index_file::{IndexFile, file_of, out_of_memory};
 pub use lack::{Lack, lack_of};

@@ -2,6 +2,7 @@
 
 use crate::index_file::{IndexFile, file_of, out_of_memory};
 use crate::lack::{Lack, lack_of};
+use crate::slips::other_name;
 use catalogue::Catalogue;
 use features::{DependencyParts, PackageName};
 use index_reader::{Folder, FolderFault, Record};
@@ -12,7 +13,7 @@ use std::alloc::Global;
 pub struct Missing {
     pub(crate) lack: Lack,
     pub(crate) file: Option<IndexFile>,
-    /// Where there is no file, a name that has one and differs in `-` and `_` alone.
+    /// Where nothing of its file can be used, a name like it that has a record.
     pub(crate) other: Option<PackageName>,
 }
 
@@ -24,10 +25,18 @@ impl Missing {
             None => &[],
         }
     }
+
+    /// How many of its lines can't be used.
+    pub(crate) fn skipped(&self) -> usize {
+        match &self.file {
+            Some(file) => file.skips.len(),
+            None => 0,
+        }
+    }
 }
 
-/// Why nothing fits a dependency, if nothing does: only then the folder is asked, for its file, and where there is none
-/// for two others.
+/// Why nothing fits a dependency, if nothing does: only then the folder is asked, for its file, and where nothing of it
+/// can be used for those of names like it.
 ///
 /// # Errors
 /// Want of memory, or the folder failed.
@@ -43,8 +52,8 @@ pub fn look_for<F: Folder>(
     let name = &dependency.real_name;
     let file = file_of(alloc, folder, name)?;
     let other = match &file {
-        Some(_) => None,
-        None => other_name(alloc, folder, name)?,
+        Some(file) if !file.records.is_empty() => None,
+        _ => other_name(alloc, folder, name)?,
     };
     let records = match &file {
         Some(file) => Some(file.records.as_slice()),
@@ -53,42 +62,5 @@ pub fn look_for<F: Folder>(
     match lack_of(dependency, catalogue, records) {
         Some(lack) => Ok(Some(Missing { lack, file, other })),
         None => Ok(None),
-    }
-}
-
-/// A name that has a record, with `_` for each `-` or `-` for each `_`.
-fn other_name<F: Folder>(
-    alloc: Global,
-    folder: &mut F,
-    name: &PackageName,
-) -> Result<Option<PackageName>, FolderFault> {
-    match spelt(alloc, folder, name, '-', "_")? {
-        Some(other) => Ok(Some(other)),
-        None => spelt(alloc, folder, name, '_', "-"),
-    }
-}
-
-/// The name with one letter for another, if it has a record.
-fn spelt<F: Folder>(
-    alloc: Global,
-    folder: &mut F,
-    name: &PackageName,
-    letter: char,
-    by: &str,
-) -> Result<Option<PackageName>, FolderFault> {
-    let text = name
-        .as_str()
-        .replace(alloc, letter, by)
-        .map_err(out_of_memory)?;
-    let Ok(other) = PackageName::parse(alloc, text.as_str()) else {
-        return Ok(None);
-    };
-    let Some(file) = file_of(alloc, folder, &other)? else {
-        return Ok(None);
-    };
-    if file.records.is_empty() {
-        Ok(None)
-    } else {
-        Ok(Some(other))
     }
 }

@@ -2,9 +2,9 @@
 
 use crate::lack::{Lack, has_feature, is_held_back, is_yanked, missing_feature};
 use crate::missing::Missing;
-use crate::similar::similar_feature;
+use crate::similar::{newest_table, similar_feature};
 use catalogue::Catalogue;
-use features::{DependencyParts, FeatureName, PackageName};
+use features::{DependencyParts, FeatureName, FeatureTable, PackageName};
 use index_reader::Record;
 use semver::{Version, VersionReq};
 use std::alloc::{AllocError, Global};
@@ -18,10 +18,14 @@ pub struct NothingFits<'a> {
     pub newest: Option<&'a Version>,
     /// The feature that is lacking.
     pub feature: Option<&'a FeatureName>,
-    /// A name that there is, where the name of the dependency isn't there.
+    /// A name that there is, where nothing of the dependency's name can be used.
     pub other: Option<&'a PackageName>,
     /// A feature of nearly the same name, where no version has the one that is lacking.
     pub similar: Option<&'a FeatureName>,
+    /// Where there is none of nearly the same name, all features of the newest version that fits.
+    pub offered: Option<&'a FeatureTable>,
+    /// How many lines of its file can't be used.
+    pub skipped: usize,
 }
 
 /// What is told of a dependency for which nothing fits, by what the index has of it.
@@ -49,12 +53,18 @@ pub fn nothing_fits<'a>(
         (None, Some(feature)) => similar_feature(alloc, catalogue, dependency, feature)?,
         _ => None,
     };
+    let offered = match (version, similar) {
+        (None, None) => newest_table(catalogue, dependency),
+        _ => None,
+    };
     Ok(NothingFits {
         lack,
         newest: version,
         feature,
         other: missing.other.as_ref(),
         similar,
+        offered,
+        skipped: missing.skipped(),
     })
 }
 

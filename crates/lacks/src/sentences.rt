@@ -5,7 +5,7 @@ use crate::lack::Lack;
 use crate::missing::look_for;
 use crate::reason::{NothingFits, nothing_fits};
 use catalogue::Catalogue;
-use features::{DependencyParts, FeatureName, PackageName};
+use features::{DependencyParts, FeatureTable, PackageName};
 use index_reader::{Folder, FolderFault};
 use manifest::Manifest;
 use semver::Version;
@@ -32,7 +32,7 @@ pub fn tell_lacks<F: Folder>(
     Ok(text)
 }
 
-/// `demo needs a ^2, but no version of a fits; the newest is 1.4.0.`
+/// `demo needs a ^2, but no version of a fits; the newest in this index is 1.4.0.`
 fn push_lack(
     text: &mut String,
     root: &PackageName,
@@ -52,7 +52,7 @@ fn push_lack(
 }
 
 /// Adds a note that tells why nothing fits a dependency, `note: nothing fits a ^2: there is no package a in this
-/// index`; none where there are versions and only none that fits, or where some fits.
+/// index`; none where all lines can be used and only none fits, or where some fits.
 ///
 /// # Errors
 /// As of `tell_lacks`.
@@ -67,7 +67,8 @@ pub fn note_lack<F: Folder>(
         return Ok(());
     };
     let reason = nothing_fits(alloc, catalogue, dependency, &found).map_err(out_of_memory)?;
-    if matches!(reason.lack, Lack::NoVersion | Lack::NoFeature) {
+    let is_known = reason.lack == Lack::NoVersion && reason.skipped == 0;
+    if is_known || reason.lack == Lack::NoFeature {
         return Ok(());
     }
     push_note(text, dependency, reason).map_err(out_of_memory)
@@ -93,19 +94,44 @@ fn push_why(
 ) -> Result<(), AllocError> {
     match reason.lack {
         Lack::NoPackage => push_unknown(text, name, reason.other),
-        Lack::NoLine => write!(text, "no line of {name} in this index can be used"),
+        Lack::NoLine => {
+            write!(text, "no line of {name} in this index can be used")?;
+            push_other(text, reason.other)
+        }
         Lack::Yanked => {
             text.push_str("all versions that fit are yanked")?;
             push_newest(text, "the newest of them", reason.newest)
         }
         Lack::PreReleases => {
             text.push_str("only pre-releases would fit")?;
-            push_newest(text, "the newest of them", reason.newest)
+            push_newest(text, "the newest of them", reason.newest)?;
+            push_line_of(text, name, reason.newest)
         }
         Lack::NoVersion | Lack::NoFeature => {
             write!(text, "no version of {name} fits")?;
-            push_newest(text, "the newest", reason.newest)
+            push_newest(text, "the newest in this index", reason.newest)?;
+            push_skipped(text, reason.skipped)
         }
+    }
+}
+
+/// The line of a manifest that asks for a version.
+fn push_line_of(
+    text: &mut String,
+    name: &PackageName,
+    version: Option<&Version>,
+) -> Result<(), AllocError> {
+    match version {
+        Some(version) => write!(text, ", which `{name} = \"{version}\"` asks for"),
+        None => Ok(()),
+    }
+}
+
+fn push_skipped(text: &mut String, count: usize) -> Result<(), AllocError> {
+    match count {
+        0 => Ok(()),
+        1 => text.push_str("; 1 line of it can't be used"),
+        _ => write!(text, "; {count} lines of it can't be used"),
     }
 }
 
@@ -122,6 +148,10 @@ fn push_unknown(
     other: Option<&PackageName>,
 ) -> Result<(), AllocError> {
     write!(text, "there is no package {name} in this index")?;
+    push_other(text, other)
+}
+
+fn push_other(text: &mut String, other: Option<&PackageName>) -> Result<(), AllocError> {
     match other {
         Some(other) => write!(text, "; there is {other}"),
         None => Ok(()),
@@ -147,14 +177,31 @@ fn push_feature(
                 text,
                 " with feature {feature}, which no version of {name} has"
             )?;
-            push_similar(text, reason.similar)
+            match (reason.similar, reason.offered) {
+                (Some(similar), _) => write!(text, "; there is {similar}"),
+                (None, Some(table)) => push_offered(text, table),
+                (None, None) => Ok(()),
+            }
         }
     }
 }
 
-fn push_similar(text: &mut String, similar: Option<&FeatureName>) -> Result<(), AllocError> {
-    match similar {
-        Some(similar) => write!(text, "; there is {similar}"),
-        None => Ok(()),
+/// How many features are named at most.
+const FEATURES: usize = 12;
+
+/// `; there are fast, small and 3 more`.
+fn push_offered(text: &mut String, table: &FeatureTable) -> Result<(), AllocError> {
+    let count = table.iter().count();
+    for (place, (name, _)) in table.iter().take(FEATURES).enumerate() {
+        let lead = match place {
+            0 if count == 1 => "; there is ",
+            0 => "; there are ",
+            _ => ", ",
+        };
+        write!(text, "{lead}{name}")?;
+    }
+    match count.saturating_sub(FEATURES) {
+        0 => Ok(()),
+        more => write!(text, " and {more} more"),
     }
 }

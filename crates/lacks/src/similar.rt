@@ -20,7 +20,7 @@ pub(crate) fn similar_feature<'a>(
 }
 
 /// The features of the newest candidate that a dependency matches.
-fn newest_table<'a>(
+pub(crate) fn newest_table<'a>(
     catalogue: &'a Catalogue,
     dependency: &DependencyParts,
 ) -> Option<&'a FeatureTable> {

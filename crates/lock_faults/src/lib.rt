@@ -18,5 +18,5 @@ mod repairing;
 mod section;
 mod telling;
 
-pub use repairing::{Readable, readable_part};
+pub use repairing::{LeftOut, Readable, part_without, readable_part};
 pub use telling::misreading_of;

@@ -4,6 +4,7 @@ use crate::marks::{Side, first_mark, side_of};
 use crate::misread::Broken;
 use crate::section::{Section, read_version, readable_section};
 use classes::{Class, version_order};
+use features::PackageName;
 use semver::Version;
 use std::alloc::{AllocError, Global};
 use std::cmp::Ordering;
@@ -15,6 +16,13 @@ use toml::{Table, Value};
 pub struct Readable {
     pub lock: String,
     pub packages: usize,
+}
+
+/// A package that is left out, or with no version all of its name.
+#[derive(Clone, Copy)]
+pub struct LeftOut<'a> {
+    pub name: &'a PackageName,
+    pub version: Option<&'a Version>,
 }
 
 /// A package of an index, with its version.
@@ -29,11 +37,20 @@ struct Entry<'a> {
 /// are the packages of its sides, if it has the marks of a merge, ours first, and of a side that is no TOML those of
 /// its sections that are.
 pub fn readable_part(alloc: Global, bytes: &[u8]) -> Result<Readable, AllocError> {
+    part_without(alloc, bytes, &[])
+}
+
+/// The same without some packages.
+pub fn part_without(
+    alloc: Global,
+    bytes: &[u8],
+    without: &[LeftOut<'_>],
+) -> Result<Readable, AllocError> {
     let mut tables = Vec::new(alloc);
     if !push_table(alloc, bytes, &mut tables)? {
         push_sides(alloc, bytes, &mut tables)?;
     }
-    part_of(alloc, &tables)
+    part_of(alloc, &tables, without)
 }
 
 /// Adds the table that bytes are, and whether they are one.
@@ -82,7 +99,11 @@ fn push_sections(alloc: Global, bytes: &[u8], tables: &mut Vec<Table>) -> Result
     Ok(())
 }
 
-fn part_of(alloc: Global, tables: &[Table]) -> Result<Readable, AllocError> {
+fn part_of(
+    alloc: Global,
+    tables: &[Table],
+    without: &[LeftOut<'_>],
+) -> Result<Readable, AllocError> {
     let mut entries = Vec::new(alloc);
     for table in tables.iter() {
         push_packages(alloc, table, &mut entries)?;
@@ -90,7 +111,18 @@ fn part_of(alloc: Global, tables: &[Table]) -> Result<Readable, AllocError> {
     entries.sort_by(|one, other| entry_order(one, other))?;
     // Those of one kind stand beside each other, the newest first.
     entries.dedup_by(|next, first| kind_order(first, next) == Ordering::Equal);
+    entries.retain(|entry| !is_left_out(entry, without));
     lock_of(alloc, &entries)
+}
+
+fn is_left_out(entry: &Entry<'_>, without: &[LeftOut<'_>]) -> bool {
+    without.iter().any(|out| {
+        let is_version = match out.version {
+            Some(version) => *version == entry.version,
+            None => true,
+        };
+        is_version && out.name.as_str() == entry.section.name
+    })
 }
 
 /// Adds the packages of a table, as far as they are whole.

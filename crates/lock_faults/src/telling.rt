@@ -17,7 +17,7 @@ const MARKS: &str = "the marks of a merge begin here";
 pub fn misreading_of(alloc: Global, bytes: &[u8]) -> Result<Option<Misreading>, AllocError> {
     if bytes.len() > MOST_BYTES {
         let why = String::from_str(alloc, "it has more than 64 MiB")?;
-        return Ok(Some(Misreading { line: None, why }));
+        return Ok(Some(Misreading::new(alloc, None, why)));
     }
     match toml::table_from_slice(alloc, bytes) {
         Ok(table) => match misread_in(alloc, &table) {
@@ -32,10 +32,10 @@ pub fn misreading_of(alloc: Global, bytes: &[u8]) -> Result<Option<Misreading>, 
 fn of_toml(alloc: Global, bytes: &[u8], error: &toml::de::Error) -> Result<Misreading, AllocError> {
     let found = no_toml(alloc, bytes, error)?;
     match first_mark(bytes) {
-        Some(mark) if is_before(mark, found.line) => Ok(Misreading {
-            line: Some(mark),
-            why: String::from_str(alloc, MARKS)?,
-        }),
+        Some(mark) if is_before(mark, found.line) => {
+            let why = String::from_str(alloc, MARKS)?;
+            Ok(Misreading::new(alloc, Some(mark), why))
+        }
         _ => Ok(found),
     }
 }
@@ -63,7 +63,7 @@ fn of_rule(alloc: Global, bytes: &[u8], misread: &Misread<'_>) -> Result<Misread
         Misread::NoPackages => String::from_str(alloc, "its packages are no array of tables")?,
         Misread::Package(_, broken) => format!(in alloc; "{broken}")?,
     };
-    Ok(Misreading { line, why })
+    Ok(Misreading::new(alloc, line, why))
 }
 
 /// The line, from 1, of the header `[[package]]` of a number, from 0.

@@ -22,7 +22,7 @@ pub fn misreading_of(
 ) -> Result<Option<Misreading>, AllocError> {
     if bytes.len() > MOST_BYTES {
         let why = String::from_str(alloc, "it has more than 1 MiB")?;
-        return Ok(Some(Misreading { line: None, why }));
+        return Ok(Some(Misreading::new(alloc, None, why)));
     }
     match toml::table_from_slice(alloc, bytes) {
         Ok(table) => {
@@ -47,7 +47,7 @@ fn of_culprit(
     let mut why = String::new(alloc);
     let value = value_at(top, &culprit.place);
     push_sentence(alloc, &mut why, top, value, culprit)?;
-    Ok(Misreading { line, why })
+    Ok(Misreading::new(alloc, line, why))
 }
 
 /// The line of a place, else of what it is a part of; of what is absent, that of where it has to be.

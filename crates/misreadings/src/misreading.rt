@@ -2,6 +2,7 @@
 
 use crate::line::line_after;
 use std::alloc::{AllocError, Global};
+use std::str::from_utf8;
 
 /// Where and why a file doesn't read.
 #[derive(Drop)]
@@ -9,14 +10,25 @@ pub struct Misreading {
     /// The line, from 1; none of what is wrong with the file as a whole.
     pub line: Option<usize>,
     pub why: String,
+    /// The line itself, with a mark below the place; nothing where the line is all that is known.
+    pub shown: String,
 }
 
 impl Misreading {
+    /// What is wrong with a line, or with the file.
+    pub fn new(alloc: Global, line: Option<usize>, why: String) -> Misreading {
+        Misreading {
+            line,
+            why,
+            shown: String::new(alloc),
+        }
+    }
+
     /// `Cargo.toml line 3: expected newline`, and a line end.
     pub fn told(&self, alloc: Global, path: &str) -> Result<String, AllocError> {
-        let Misreading { line, why } = self;
+        let Misreading { line, why, shown } = self;
         match line {
-            Some(line) => format!(in alloc; "{path} line {line}: {why}\n"),
+            Some(line) => format!(in alloc; "{path} line {line}: {why}\n{shown}"),
             None => format!(in alloc; "{path}: {why}\n"),
         }
     }
@@ -31,9 +43,46 @@ pub fn no_toml(
     let Some(span) = error.span() else {
         return Err(AllocError);
     };
-    let before = bytes.get(..span.start).unwrap_or(bytes);
+    let (before, after) = bytes.split_at(span.start.min(bytes.len()));
     Ok(Misreading {
         line: Some(line_after(before)),
-        why: String::from_str(alloc, error.message())?,
+        why: String::from_str(alloc, why_of(error.message(), after))?,
+        shown: shown(alloc, before, after)?,
     })
+}
+
+/// What is wrong before the rest of a file.
+fn why_of<'a>(message: &'a str, rest: &[u8]) -> &'a str {
+    let is_cut = message == "invalid string";
+    match rest.trim_ascii_start().first() {
+        None if is_cut => "the file ends within this string: it may have been cut off",
+        _ if is_cut && rest.first() == Some(&b'\n') => {
+            "this string doesn't end on its line, expected a quote"
+        }
+        _ => message,
+    }
+}
+
+/// Longer lines aren't shown.
+const WIDEST: usize = 160;
+
+/// The line on which two parts of a file meet, with a mark below the place where they do.
+fn shown(alloc: Global, before: &[u8], after: &[u8]) -> Result<String, AllocError> {
+    let mut shown = String::new(alloc);
+    let front = before.rsplit(|byte| *byte == b'\n').next().unwrap_or(&[]);
+    let back = after.split(|byte| *byte == b'\n').next().unwrap_or(&[]);
+    let (Ok(front), Ok(back)) = (from_utf8(front), from_utf8(back)) else {
+        return Ok(shown);
+    };
+    if front.len() + back.len() > WIDEST {
+        return Ok(shown);
+    }
+    let back = back.trim_end();
+    writeln!(shown, "    {front}{back}")?;
+    shown.push_str("    ")?;
+    for char in front.chars() {
+        shown.push(if char == '\t' { '\t' } else { ' ' })?;
+    }
+    shown.push_str("^\n")?;
+    Ok(shown)
 }

@@ -60,7 +60,10 @@ fn push_unmatched(
 ) -> Result<(), AllocError> {
     let versions = problem.catalogue.versions(&dependency.real_name);
     match versions.last() {
-        Some(newest) => write!(text, " (no version fits; the newest is {newest})"),
+        Some(newest) => write!(
+            text,
+            " (no version fits; the newest in this index is {newest})"
+        ),
         None => text.push_str(" (no version of it can be used)"),
     }
 }
