@@ -24,9 +24,10 @@ mod skips;
 mod steps;
 mod ways;
 
+pub use available::NeededRust;
 pub use changing::{Changes, changes_between};
 pub use on_ways::dependencies_to;
-pub use printing::{Line, ToldLine, tell_changes, told_lines};
+pub use printing::{Line, ToldLine, is_yanked, named, tell_changes, told_lines};
 pub use relisting::Relisting;
 pub use skips::{REASONS, meaning, tell_skips};
 pub use steps::{Step, dependencies_between, steps_of, tell_steps};

@@ -1,10 +1,10 @@
 //! The lines of what changed between two locks, as `cargo update` has them.
 
-use crate::available::available;
+use crate::available::{NeededRust, Newer, available, needed};
 use crate::changing::Changes;
 use crate::relisting::Relisting;
 use catalogue::Catalogue;
-use classes::version_order;
+use classes::{RustVersion, version_order};
 use features::PackageName;
 use lockfile::{LockContent, Package};
 use semver::Version;
@@ -30,6 +30,8 @@ pub struct ToldLine<'a> {
     pub line: Line<'a>,
     /// The version that is told beside the package, if there is a newer one.
     pub newer: Option<&'a Version>,
+    /// The Rust version that this needs, or without it the package itself, where the one at hand doesn't do.
+    pub rust: Option<NeededRust>,
 }
 
 impl ToldLine<'_> {
@@ -44,17 +46,18 @@ impl ToldLine<'_> {
 }
 
 /// How many packages are locked anew, and a line for each that came, went or changed its version; then what else
-/// changes
-/// in the lock, and how many others have a newer version, or a line for each of them if `all` are asked for.
+/// changes in the lock, and how many others have a newer version, or a line for each of them if `all` are asked for.
+/// Where Rust versions count, `rust` is the one at hand.
 pub fn tell_changes<'a>(
     alloc: Global,
     catalogue: &'a Catalogue,
     new: &'a LockContent,
     changes: &Changes<'a>,
+    rust: Option<RustVersion>,
     all: bool,
 ) -> Result<String, AllocError> {
     let mut text = String::new(alloc);
-    let lines = told_lines(alloc, catalogue, new, changes)?;
+    let lines = told_lines(alloc, catalogue, new, changes, rust)?;
     let locked = Packages(changes.came.len());
     writeln!(text, "     Locking {locked}")?;
     for told in lines.iter() {
@@ -63,6 +66,7 @@ pub fn tell_changes<'a>(
         }
     }
     push_beside(&mut text, changes)?;
+    push_yanked(&mut text, catalogue, &changes.stayed)?;
     if !all {
         let behind = lines.iter().filter(|told| told.is_behind()).count();
         push_behind(&mut text, behind)?;
@@ -77,14 +81,36 @@ pub fn told_lines<'a>(
     catalogue: &'a Catalogue,
     new: &'a LockContent,
     changes: &Changes<'a>,
+    rust: Option<RustVersion>,
 ) -> Result<Vec<ToldLine<'a>>, AllocError> {
     let direct = listed_by_root(alloc, new)?;
     let mut told = Vec::new(alloc);
     for line in lines(alloc, changes)?.iter() {
-        let newer = newer(catalogue, &direct, of(*line));
-        told.push(ToldLine { line: *line, newer })?;
+        told.push(told_line(catalogue, &direct, *line, rust))?;
     }
     Ok(told)
+}
+
+fn told_line<'a>(
+    catalogue: &'a Catalogue,
+    direct: &[&Package],
+    line: Line<'a>,
+    rust: Option<RustVersion>,
+) -> ToldLine<'a> {
+    let package = of(line);
+    let needed = needed(catalogue, package, rust);
+    match newer(catalogue, direct, package, rust) {
+        Some(newer) if needed.is_none() => ToldLine {
+            line,
+            newer: Some(newer.version),
+            rust: newer.rust,
+        },
+        _ => ToldLine {
+            line,
+            newer: None,
+            rust: needed,
+        },
+    }
 }
 
 /// So many packages.
@@ -107,11 +133,12 @@ fn newer<'a>(
     catalogue: &'a Catalogue,
     direct: &[&Package],
     package: &Package,
-) -> Option<&'a Version> {
+    rust: Option<RustVersion>,
+) -> Option<Newer<'a>> {
     let is_direct = named(direct, &package.name)
         .iter()
         .any(|other| other.version == package.version);
-    available(catalogue, package, is_direct)
+    available(catalogue, package, is_direct, rust)
 }
 
 /// The packages that the root lists, which alone in a valid lock has no source.
@@ -154,16 +181,47 @@ fn push_beside(text: &mut String, changes: &Changes<'_>) -> Result<(), AllocErro
     }
 }
 
-/// The line of the manifest's package, where it changed its version.
+/// The line of the manifest's package, where it changed its name or its version.
 fn push_root(text: &mut String, before: &Package, after: &Package) -> Result<(), AllocError> {
     let Package { name, version, .. } = before;
-    let is_moved = before.name == after.name
-        && version_order(version, &after.version) != Ordering::Equal;
-    if is_moved {
-        let after = &after.version;
-        writeln!(text, "    Updating {name} v{version} -> v{after}")?;
+    let (new_name, new_version) = (&after.name, &after.version);
+    if name != new_name {
+        return writeln!(
+            text,
+            "    Renaming {name} v{version} -> {new_name} v{new_version}"
+        );
+    }
+    if version_order(version, new_version) == Ordering::Equal {
+        Ok(())
+    } else {
+        writeln!(text, "    Updating {name} v{version} -> v{new_version}")
+    }
+}
+
+/// That a package stays though it is yanked.
+fn push_yanked(
+    text: &mut String,
+    catalogue: &Catalogue,
+    stayed: &[&Package],
+) -> Result<(), AllocError> {
+    for package in stayed.iter() {
+        if is_yanked(catalogue, package) {
+            let Package { name, version, .. } = package;
+            writeln!(
+                text,
+                "note: {name} v{version} is yanked, and stays since it is locked"
+            )?;
+        }
     }
     Ok(())
+}
+
+/// Whether a package of a lock is yanked.
+pub fn is_yanked(catalogue: &Catalogue, package: &Package) -> bool {
+    match catalogue.candidate(&package.name, &package.version) {
+        Some(candidate) => candidate.yanked,
+        None => false,
+    }
 }
 
 /// `   Relisting a v1.0.0 with b v2.0.0`, or `without` it.
@@ -245,7 +303,7 @@ fn only<'a>(packages: &[&'a Package], package: &Package) -> Option<&'a Package> 
 }
 
 /// The packages of a name, among packages in package order.
-fn named<'p, 'a>(packages: &'p [&'a Package], name: &PackageName) -> &'p [&'a Package] {
+pub fn named<'p, 'a>(packages: &'p [&'a Package], name: &PackageName) -> &'p [&'a Package] {
     let first = packages.partition_point(|other| other.name < *name);
     let rest = &packages[first..];
     let count = rest.partition_point(|other| other.name == *name);
@@ -278,18 +336,18 @@ fn rank(line: Line<'_>) -> u8 {
     }
 }
 
-/// The line, but of what stays only where it has a newer version.
+/// The line, but of what stays only where something is told beside it.
 fn push_line(text: &mut String, told: ToldLine<'_>) -> Result<(), AllocError> {
-    let ToldLine { line, newer } = told;
+    let ToldLine { line, newer, rust } = told;
     let Package { name, version, .. } = of(line);
-    let end = Available(newer);
+    let end = Beside { newer, rust };
     match line {
         Line::Removing(_) => writeln!(text, "    Removing {name} v{version}"),
         Line::Adding(_) => writeln!(text, "      Adding {name} v{version}{end}"),
         Line::Updating(before, _) => push_moved(text, "    Updating", before, version, end),
         Line::Downgrading(before, _) => push_moved(text, " Downgrading", before, version, end),
         Line::Unchanged(_) => {
-            if newer.is_none() {
+            if newer.is_none() && rust.is_none() {
                 return Ok(());
             }
             writeln!(text, "   Unchanged {name} v{version}{end}")
@@ -303,21 +361,28 @@ fn push_moved(
     word: &str,
     before: &Package,
     after: &Version,
-    end: Available<'_>,
+    end: Beside<'_>,
 ) -> Result<(), AllocError> {
     let Package { name, version, .. } = before;
     writeln!(text, "{word} {name} v{version} -> v{after}{end}")
 }
 
-/// The end of a line: a newer version, if there is one.
+/// The end of a line: a newer version, if there is one, and the Rust version that is needed.
 #[derive(Clone, Copy)]
-struct Available<'a>(Option<&'a Version>);
+struct Beside<'a> {
+    newer: Option<&'a Version>,
+    rust: Option<NeededRust>,
+}
 
-impl fmt::Display for Available<'_> {
+impl fmt::Display for Beside<'_> {
     fn fmt<W: fmt::Write>(&self, f: &mut fmt::Formatter<W>) -> fmt::Result {
-        match self.0 {
-            Some(version) => write!(f, " (available: v{version})"),
-            None => Ok(()),
+        match (self.newer, self.rust) {
+            (Some(version), Some(rust)) => {
+                write!(f, " (available: v{version}, requires Rust {rust})")
+            }
+            (Some(version), None) => write!(f, " (available: v{version})"),
+            (None, Some(rust)) => write!(f, " (requires Rust {rust})"),
+            (None, None) => Ok(()),
         }
     }
 }

@@ -1,12 +1,12 @@
 //! What changed in a lock.
 
 use crate::message::{Change, Message, PackageChange, push_message};
+use crate::run_told::{Severity, diagnostic};
 use crate::shown::Shown;
-use catalogue::{Catalogue, LoadFault};
-use changes::{Line, ToldLine, changes_between, told_lines};
-use index_reader::Folder;
+use catalogue::Catalogue;
+use changes::{Line, ToldLine, changes_between, is_yanked, told_lines};
 use lockfile::{LockContent, Package};
-use reports::{Inputs, loaded};
+use reports::Inputs;
 use std::alloc::{AllocError, Global};
 
 /// What is told of a lock beside its packages.
@@ -28,17 +28,16 @@ struct Counts {
 
 /// What became of each package from the lock to a new one; of those that stay only with `all`, and only of such that
 /// have a newer version. The lock itself comes last.
-pub fn changes_to<F: Folder>(
+pub fn changes_to(
     alloc: Global,
-    folder: &mut F,
+    catalogue: &Catalogue,
     inputs: &Inputs,
     new: &LockContent,
     lock: NewLock<'_>,
     all: bool,
-) -> Result<String, LoadFault> {
-    let catalogue = loaded(alloc, folder, inputs)?;
+) -> Result<String, AllocError> {
     let mut text = String::new(alloc);
-    let counts = push_changes(&mut text, alloc, &catalogue, inputs, new, all)?;
+    let counts = push_changes(&mut text, alloc, catalogue, inputs, new, all)?;
     let message = Message::Lock {
         path: lock.path,
         changed: lock.changed,
@@ -58,19 +57,40 @@ fn push_changes<'a>(
     all: bool,
 ) -> Result<Counts, AllocError> {
     let changes = changes_between(alloc, inputs.lock.as_ref(), new)?;
-    let lines = told_lines(alloc, catalogue, new, &changes)?;
+    let lines = told_lines(alloc, catalogue, new, &changes, inputs.rust())?;
     for told in lines.iter() {
-        if let Some(message) = message_of(*told, all) {
+        if let Some(message) = message_of(told, all) {
             push_message(text, alloc, &message)?;
         }
     }
+    push_yanked(text, alloc, catalogue, &changes.stayed)?;
     Ok(Counts {
         locked: changes.came.len(),
         behind: lines.iter().filter(|told| told.is_behind()).count(),
     })
 }
 
-fn message_of<'a>(told: ToldLine<'a>, all: bool) -> Option<Message<'a>> {
+/// That a package stays though it is yanked.
+fn push_yanked(
+    text: &mut String,
+    alloc: Global,
+    catalogue: &Catalogue,
+    stayed: &[&Package],
+) -> Result<(), AllocError> {
+    for package in stayed.iter() {
+        if is_yanked(catalogue, package) {
+            let (name, version) = (&package.name, &package.version);
+            let message = format!(in alloc;
+                "{name} {version} is yanked, and stays since it is locked"
+            )?;
+            let line = diagnostic(alloc, Severity::Warning, "yanked", message.as_str(), None)?;
+            text.push_str(line.as_str())?;
+        }
+    }
+    Ok(())
+}
+
+fn message_of<'a>(told: &'a ToldLine<'a>, all: bool) -> Option<Message<'a>> {
     match told.line {
         Line::Removing(package) => Some(changed(Change::Removed, package, None, told)),
         Line::Adding(package) => Some(changed(Change::Added, package, None, told)),
@@ -94,7 +114,7 @@ fn changed<'a>(
     change: Change,
     package: &'a Package,
     before: Option<&'a Package>,
-    told: ToldLine<'a>,
+    told: &'a ToldLine<'a>,
 ) -> Message<'a> {
     Message::PackageChange(PackageChange {
         change,
@@ -108,6 +128,10 @@ fn changed<'a>(
         available: match (change, told.newer) {
             (Change::Removed, _) | (_, None) => None,
             (_, Some(version)) => Some(Shown(version)),
+        },
+        requires_rust: match (change, &told.rust) {
+            (Change::Removed, _) | (_, None) => None,
+            (_, Some(rust)) => Some(Shown(rust)),
         },
     })
 }

@@ -6,7 +6,7 @@ use catalogue::{Catalogue, LoadFault};
 use features::{Dependency, PackageName};
 use index_reader::{Folder, FolderFault};
 use lacks::{Lack, NothingFits, look_for, nothing_fits, out_of_memory};
-use reports::{Inputs, loaded, unless_failed};
+use reports::{Inputs, unless_failed};
 use std::alloc::Global;
 
 /// The dependencies of the manifest for which nothing fits; where there is none, or the folder fails while it is asked
@@ -14,10 +14,10 @@ use std::alloc::Global;
 pub fn lacks_of<F: Folder>(
     alloc: Global,
     folder: &mut F,
+    catalogue: &Catalogue,
     inputs: &Inputs,
 ) -> Result<String, LoadFault> {
-    let catalogue = loaded(alloc, folder, inputs)?;
-    let lacks = lacks_in(alloc, folder, inputs, &catalogue);
+    let lacks = lacks_in(alloc, folder, inputs, catalogue);
     unless_failed(alloc, lacks)
 }
 

@@ -21,7 +21,7 @@ mod ways_told;
 pub use changes_told::{NewLock, changes_to};
 pub use lacks_told::lacks_of;
 pub use message::refusal;
-pub use run_told::{Severity, diagnostic, index_read, misreading, repair};
+pub use run_told::{Severity, diagnostic, index_fetched, index_read, misreading, repair};
 pub use skips_told::skips;
 pub use verdicts_told::{flaws_of_lock, verdict};
 pub use ways_told::{dependencies, way};

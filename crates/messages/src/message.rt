@@ -5,6 +5,7 @@ ghost use Rattle.json.specs.Lex.{tokens};
 ghost use Rattle.json.specs.Print.{print};
 
 use crate::shown::Shown;
+use changes::NeededRust;
 use features::Requirement;
 use index_reader::SkipReason;
 use semver::Version;
@@ -65,6 +66,8 @@ pub(crate) struct PackageChange<'a> {
     pub(crate) source: Option<&'a str>,
     /// A newer version that it could have.
     pub(crate) available: Option<Shown<'a, Version>>,
+    /// The Rust version that this needs, or without it the package itself, where that of the manifest doesn't do.
+    pub(crate) requires_rust: Option<Shown<'a, NeededRust>>,
 }
 
 /// What became of a package.

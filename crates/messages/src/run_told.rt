@@ -37,6 +37,11 @@ enum RunMessage<'a> {
         files: u64,
         lines: u64,
     },
+    /// That the index is what Cargo fetched, and how many packages were looked for that it didn't.
+    Fetched {
+        path: &'a str,
+        missing: Option<usize>,
+    },
 }
 
 /// What went wrong, or may have.
@@ -93,6 +98,15 @@ pub fn repair(alloc: Global, path: &str, packages: usize) -> Result<String, Allo
 /// The message of how much of an index was read.
 pub fn index_read(alloc: Global, path: &str, files: u64, lines: u64) -> Result<String, AllocError> {
     told(alloc, &RunMessage::Index { path, files, lines })
+}
+
+/// The message that an index is what Cargo fetched, and how many packages were looked for that it didn't.
+pub fn index_fetched(
+    alloc: Global,
+    path: &str,
+    missing: Option<usize>,
+) -> Result<String, AllocError> {
+    told(alloc, &RunMessage::Fetched { path, missing })
 }
 
 fn told(alloc: Global, message: &RunMessage<'_>) -> Result<String, AllocError> {

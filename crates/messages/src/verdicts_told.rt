@@ -4,10 +4,11 @@ use crate::message::{PackageId, push_message};
 use crate::shown::Shown;
 use crate::ways_told::id_of;
 use catalogue::{Catalogue, LoadFault};
+use changes::is_yanked;
 use features::{Dependency, FeatureName, Requirement};
 use flaws::{
     Flawed, Judged, MissingVersion, NoCandidate, dependency_at, flaws_of, lacking_features,
-    last_serving, why_missing,
+    last_serving, listed_in, why_missing,
 };
 use index_reader::{Folder, FolderFault, SkipReason};
 use lacks::out_of_memory;
@@ -198,8 +199,12 @@ fn push_all<F: Folder>(
     catalogue: &Catalogue,
     judged: &Judged<'_>,
 ) -> Result<(), FolderFault> {
-    for flawed in judged.flawed.iter() {
-        push_flawed(text, alloc, folder, catalogue, &judged.findings, flawed)?;
+    let findings = &judged.findings;
+    let flawed = judged.flawed.as_slice();
+    let listed = listed_in(alloc, findings.content, flawed).map_err(out_of_memory)?;
+    for flawed in flawed.iter() {
+        let is_listed = listed.get(flawed.place) == Some(&true);
+        push_flawed(text, alloc, folder, catalogue, findings, flawed, is_listed)?;
     }
     Ok(())
 }
@@ -212,12 +217,13 @@ fn push_flawed<F: Folder>(
     catalogue: &Catalogue,
     findings: &Findings<'_>,
     flawed: &Flawed,
+    is_listed: bool,
 ) -> Result<(), FolderFault> {
     let Some(package) = findings.content.get(flawed.place) else {
         return Ok(());
     };
     if let Some(why) = flawed.no_candidate {
-        push_no_candidate(text, alloc, folder, catalogue, package, why)?;
+        push_no_candidate(text, alloc, folder, catalogue, package, is_listed, why)?;
     }
     push_others(text, alloc, findings, package, flawed).map_err(out_of_memory)?;
     if is_yanked(catalogue, package) {
@@ -250,13 +256,6 @@ fn push_others<'a>(
     Ok(())
 }
 
-fn is_yanked(catalogue: &Catalogue, package: &Package) -> bool {
-    match catalogue.candidate(&package.name, &package.version) {
-        Some(candidate) => candidate.yanked,
-        None => false,
-    }
-}
-
 /// Why a package is no candidate. The folder is asked for the file of a version that isn't there.
 fn push_no_candidate<'a, F: Folder>(
     text: &mut String,
@@ -264,6 +263,7 @@ fn push_no_candidate<'a, F: Folder>(
     folder: &mut F,
     catalogue: &'a Catalogue,
     package: &'a Package,
+    is_listed: bool,
     why: NoCandidate,
 ) -> Result<(), FolderFault> {
     let mut more = More::none();
@@ -274,7 +274,9 @@ fn push_no_candidate<'a, F: Folder>(
             more.expected = Some(catalogue.source());
             FlawKind::OtherSource
         }
-        NoCandidate::NoVersion => return push_no_version(text, alloc, folder, catalogue, package),
+        NoCandidate::NoVersion => {
+            return push_no_version(text, alloc, folder, catalogue, package, is_listed);
+        }
         NoCandidate::NoChecksum => FlawKind::NoChecksum,
         NoCandidate::OtherChecksum => {
             return push_other_checksum(text, alloc, catalogue, package).map_err(out_of_memory);
@@ -283,17 +285,20 @@ fn push_no_candidate<'a, F: Folder>(
     push_flaw(text, alloc, id_of(package), kind, more).map_err(out_of_memory)
 }
 
-/// Why the index has no candidate of a package's version.
+/// Why the index has no candidate of a package's version; nothing where a list has it of a package that is no candidate
+/// either, for then nobody knows whether it is needed.
 fn push_no_version<F: Folder>(
     text: &mut String,
     alloc: Global,
     folder: &mut F,
     catalogue: &Catalogue,
     package: &Package,
+    is_listed: bool,
 ) -> Result<(), FolderFault> {
     let missing = why_missing(alloc, catalogue, package, folder)?;
     let more = More::about(None, missing_told(&missing));
     let kind = match &missing {
+        MissingVersion::Unasked if is_listed => return Ok(()),
         MissingVersion::Unasked => FlawKind::Unneeded,
         _ => FlawKind::NoVersion,
     };

@@ -4,7 +4,7 @@ ghost use Rattle.std.specs.Prelude.{IfOk, IsSome};
 ghost use Rattle.model.specs.Derivation.{IsAccepted};
 ghost use Rattle.catalogue.specs.Problems.{problem_in};
 
-use crate::reporting::{Inputs, loaded, unless_failed};
+use crate::reporting::{Inputs, unless_failed};
 use catalogue::{Catalogue, LoadFault};
 use checker::{Check, check};
 use derivations::Derivation;
@@ -23,20 +23,20 @@ const MOST_NOTES: usize = 10;
 pub fn refusal_of<F: Folder>(
     alloc: Global,
     folder: &mut F,
+    catalogue: &Catalogue,
     inputs: &Inputs,
     derivation: &Derivation,
     all: bool,
 ) -> Result<Option<String>, LoadFault> {
-    let catalogue = loaded(alloc, folder, inputs)?;
-    let lacks = tell_lacks(alloc, &inputs.manifest, &catalogue, folder);
+    let lacks = tell_lacks(alloc, &inputs.manifest, catalogue, folder);
     let lacks = unless_failed(alloc, lacks)?;
     if !lacks.is_empty() {
         return Ok(Some(lacks));
     }
-    let Some(mut text) = told(alloc, &inputs.manifest, &catalogue, derivation, all)? else {
+    let Some(mut text) = told(alloc, &inputs.manifest, catalogue, derivation, all)? else {
         return Ok(None);
     };
-    let notes = notes_on(alloc, folder, inputs, &catalogue, derivation);
+    let notes = notes_on(alloc, folder, inputs, catalogue, derivation);
     let notes = unless_failed(alloc, notes)?;
     text.push_str(notes.as_str())?;
     Ok(Some(text))

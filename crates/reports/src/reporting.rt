@@ -2,20 +2,33 @@
 
 use catalogue::{Catalogue, LoadFault, Prefer, Source, load};
 use changes::{changes_between, tell_changes};
+use classes::RustVersion;
 use index_reader::{Folder, FolderFault};
 use lockfile::LockContent;
 use manifest::Manifest;
 use std::alloc::{AllocError, Global};
 
-/// What a report is about, beside an index: a manifest, a lock if there is one, and the source of the index's packages.
+/// What a report is about, beside an index: a manifest, a lock if there is one, the source of the index's packages, and
+/// which of them are preferred.
 #[derive(Drop)]
 pub struct Inputs {
     pub manifest: Manifest,
     pub lock: Option<LockContent>,
     pub source: Source,
+    pub prefer: Prefer,
 }
 
-/// What is loaded of an index for these, the newest versions preferred.
+impl Inputs {
+    /// The Rust version at hand, where it counts.
+    pub fn rust(&self) -> Option<RustVersion> {
+        match self.prefer {
+            Prefer::RustFirst => self.manifest.rust_version(),
+            Prefer::Newest => None,
+        }
+    }
+}
+
+/// What is loaded of an index for these.
 pub fn loaded<F: Folder>(
     alloc: Global,
     folder: &mut F,
@@ -27,23 +40,12 @@ pub fn loaded<F: Folder>(
         folder,
         inputs.lock.as_ref(),
         &inputs.source,
-        Prefer::Newest,
+        inputs.prefer,
     )
 }
 
 /// What changes from the lock to a new one.
-pub fn changes_to<F: Folder>(
-    alloc: Global,
-    folder: &mut F,
-    inputs: &Inputs,
-    new: &LockContent,
-    all: bool,
-) -> Result<String, LoadFault> {
-    let catalogue = loaded(alloc, folder, inputs)?;
-    Ok(changes_told(alloc, &catalogue, inputs, new, all)?)
-}
-
-fn changes_told<'a>(
+pub fn changes_to<'a>(
     alloc: Global,
     catalogue: &'a Catalogue,
     inputs: &'a Inputs,
@@ -51,7 +53,7 @@ fn changes_told<'a>(
     all: bool,
 ) -> Result<String, AllocError> {
     let changes = changes_between(alloc, inputs.lock.as_ref(), new)?;
-    tell_changes(alloc, catalogue, new, &changes, all)
+    tell_changes(alloc, catalogue, new, &changes, inputs.rust(), all)
 }
 
 /// What is told after the index was asked once more: nothing where its folder fails.

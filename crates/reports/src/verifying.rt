@@ -2,10 +2,11 @@
 
 use crate::reporting::{Inputs, unless_failed};
 use catalogue::{Catalogue, LoadFault, Prefer, load};
+use changes::is_yanked;
 use flaws::{has_metadata, tell_flaws, without_checksums};
 use index_reader::Folder;
 use lockfile::LockContent;
-use std::alloc::Global;
+use std::alloc::{AllocError, Global};
 
 /// All that is wrong with a lock, whose bytes these are; nothing where there is no lock, or the folder fails while it
 /// is asked once more for the files of versions that aren't there.
@@ -47,4 +48,21 @@ pub fn loaded_beside<F: Folder>(
         &inputs.source,
         Prefer::Newest,
     )
+}
+
+/// A sentence for each package of a lock that is yanked.
+pub fn yanked_in(
+    alloc: Global,
+    catalogue: &Catalogue,
+    lock: &LockContent,
+) -> Result<Vec<String>, AllocError> {
+    let mut sentences = Vec::new(alloc);
+    for package in lock.packages().iter() {
+        if is_yanked(catalogue, package) {
+            let (name, version) = (&package.name, &package.version);
+            let sentence = format!(in alloc; "{name} {version} is yanked")?;
+            sentences.push(sentence)?;
+        }
+    }
+    Ok(sentences)
 }

@@ -6,6 +6,7 @@ ghost use Rattle.semver.specs.Parse.{version_parts};
 ghost use Rattle.reports.specs.Asked.{asked, asked_view, name_of, version_if, with_none, with_version};
 
 use features::{NameFault, PackageName, name_and_version};
+use lockfile::Package;
 use semver::Version;
 use std::alloc::{AllocError, Global};
 
@@ -25,6 +26,27 @@ impl Wanted {
             Some(version) => Some(version),
             None => None,
         }
+    }
+
+    /// Whether a package of a lock has this name, and the version, if one is asked for.
+    pub fn is(&self, package: &Package) -> bool {
+        let is_version = match self.version() {
+            Some(version) => *version == package.version,
+            None => true,
+        };
+        is_version && package.name == self.name
+    }
+
+    /// The same once more.
+    pub fn copy(&self) -> Result<Wanted, AllocError> {
+        let version = match &self.version {
+            Some(version) => Some(version.clone()?),
+            None => None,
+        };
+        Ok(Wanted {
+            name: self.name.clone()?,
+            version,
+        })
     }
 }
 
