@@ -1,63 +1,126 @@
 //! What a command ends with, by the files that it reads.
 
 use crate::failure::Failure;
-use cargo_words::Places;
-use index_reader::DiskFolder;
+use features::PackageName;
+use index_reader::{DiskFolder, index_path};
 use outcomes::{
-    Outcome, Said, Wish, question_in, resolve_told, skips_told, skips_told_of_all, tell_read,
-    told_fault, verify_told, warn_of_none, why_told,
+    Outcome, Pinned, Question, Said, Wish, has_workspace, precise_in, precise_told, question_in,
+    resolve_told, skips_told, skips_told_of_all, tell_fetched, tell_read, tell_time, told_fault,
+    update_told, verify_told, warn_of_none, warn_of_workspace, why_told,
 };
-use progress::{Counted, Seen, Watch};
-use project_files::{Bytes, Paths, ReadFault, lock_at, paths_below, read_files};
+use progress::{Counted, Watch};
+use project_files::{
+    Bytes, IndexFolder, Paths, ReadFault, manifests_above, paths_below, read_files,
+};
 use resolver::Fault;
+use semver::Version;
 use std::alloc::{AllocError, Global};
 use std::io::{Eprint, ErrorKind};
 use std::rt::Files;
 use std::time::Clock;
 
-/// Where the words say, else `Cargo.toml` in the present folder, `Cargo.lock` beside the manifest, and the index that
-/// the environment names.
-pub(crate) fn paths_of<'a>(
-    alloc: Global,
-    places: Places<'a>,
-    named: Option<&'a str>,
-) -> Result<Paths<'a>, Failure<'a>> {
-    let Some(index) = places.index.or(named) else {
-        return Err(Failure::NoIndex);
-    };
-    let manifest = places.manifest.unwrap_or("Cargo.toml");
-    let lock = lock_at(alloc, places.lock, manifest)?;
-    Ok(Paths {
-        manifest,
-        lock,
-        index,
-    })
-}
+/// The index of a run, which counts what it is asked for.
+type Index<'r, R> = Counted<'r, IndexFolder<DiskFolder<R>>, R>;
 
-/// The index, which counts what it is asked for.
-fn counted<'r, R: Files + Clock + Eprint + AllocGlobal + Clone + Drop>(
+fn index_at<'r, R: Files + Clock + Eprint + AllocGlobal + Clone + Drop>(
     rt: &'r R,
-    index: &str,
+    paths: &Paths<'_>,
     watch: Watch,
-) -> Result<Counted<'r, DiskFolder<R>, R>, AllocError> {
-    let folder = DiskFolder::open(rt, index)?;
+) -> Result<Index<'r, R>, AllocError> {
+    let folder = folder_at(rt, paths)?;
     Ok(Counted::new(folder, rt, watch))
 }
 
-/// What a command ends with, once a fault is told; and that there is no file of an index, where it looked for some.
-fn ended(
-    alloc: Global,
+fn folder_at<R: Files + AllocGlobal + Clone + Drop>(
+    rt: &R,
+    paths: &Paths<'_>,
+) -> Result<IndexFolder<DiskFolder<R>>, AllocError> {
+    let folder = DiskFolder::open(rt, paths.index.as_str())?;
+    Ok(IndexFolder::new(rt.alloc(), folder, paths.is_fetched))
+}
+
+/// What a command ends with, once a fault is told, and what there is to say of the index: that Cargo fetched it, or that
+/// there is no file of one, where none was found of those that were looked for; and the time.
+fn ended<R: Files + Clock + Eprint + AllocGlobal + Clone + Drop>(
+    rt: &R,
     paths: &Paths<'_>,
     bytes: &Bytes,
     told: Result<Outcome, Fault>,
-    seen: Seen,
+    index: &Index<'_, R>,
+    watch: Watch,
     said: &mut Said,
 ) -> Result<Outcome, AllocError> {
+    let alloc = rt.alloc();
+    let seen = index.seen();
+    let path = paths.index.as_str();
     let outcome = told_fault(alloc, paths, bytes, told, said)?;
-    if seen.asked > 0 && seen.files == 0 {
-        warn_of_none(alloc, paths.index, said)?;
+    if seen.asked > 0 && seen.files == 0 && is_no_index(rt, path)? {
+        warn_of_none(alloc, path, said)?;
+    } else if paths.is_fetched {
+        // After a no names were looked for that are like others, so that their number says nothing.
+        let missing = if outcome.is_yes() {
+            Some(index.folder().missing())
+        } else {
+            None
+        };
+        tell_fetched(alloc, path, missing, said)?;
+    }
+    if let Some(millis) = watch.told(rt) {
+        tell_time(alloc, millis, seen.asked, seen.lines, said)?;
     }
     Ok(outcome)
+}
+
+/// What is to be done, once it is known whether the manifest is a member of a workspace, whose lock Cargo takes: that is
+/// told, and where the lock was to be written refused.
+fn checked<'a, R: Files + AllocGlobal>(
+    rt: &R,
+    paths: &Paths<'_>,
+    bytes: &Bytes,
+    wish: Wish,
+    said: &mut Said,
+) -> Result<Wish, Failure<'a>> {
+    let alloc = rt.alloc();
+    if has_workspace(alloc, &bytes.manifest, "")? {
+        return Ok(wish);
+    }
+    for above in manifests_above(rt, paths.manifest)? {
+        if has_workspace(alloc, &above.bytes, above.below.as_str())? {
+            if wish.write {
+                return Err(Failure::Member(above.path));
+            }
+            warn_of_workspace(alloc, paths.manifest, above.path.as_str(), said)?;
+            return Ok(Wish {
+                is_member: true,
+                ..wish
+            });
+        }
+    }
+    Ok(wish)
+}
+
+/// Whether no file of a folder lies where an index has it; of one that can't be listed that isn't known.
+fn is_no_index<R: Files + AllocGlobal + Clone + Drop>(
+    rt: &R,
+    index: &str,
+) -> Result<bool, AllocError> {
+    match paths_below(rt, index) {
+        Ok(paths) => Ok(!has_index_file(rt.alloc(), &paths)?),
+        Err(_) => Ok(false),
+    }
+}
+
+fn has_index_file(alloc: Global, paths: &[String]) -> Result<bool, AllocError> {
+    for path in paths {
+        let path = path.as_str();
+        let (_, name) = path.rsplit_once('/').unwrap_or(("", path));
+        if let Ok(name) = PackageName::parse(alloc, name) {
+            if index_path(alloc, &name)?.as_str() == path {
+                return Ok(true);
+            }
+        }
+    }
+    Ok(false)
 }
 
 pub(crate) fn resolve_at<'a, R: Files + Clock + Eprint + AllocGlobal + Clone + Drop>(
@@ -68,9 +131,109 @@ pub(crate) fn resolve_at<'a, R: Files + Clock + Eprint + AllocGlobal + Clone + D
     said: &mut Said,
 ) -> Result<Outcome, Failure<'a>> {
     let bytes = read_files(rt, paths, false)?;
-    let mut folder = counted(rt, paths.index, watch)?;
-    let told = resolve_told(rt.alloc(), &mut folder, paths, &bytes, wish, said);
-    Ok(ended(rt.alloc(), paths, &bytes, told, folder.seen(), said)?)
+    let wish = checked(rt, paths, &bytes, wish, said)?;
+    let mut index = index_at(rt, paths, watch)?;
+    let told = resolve_told(rt.alloc(), &mut index, paths, &bytes, wish, said);
+    Ok(ended(rt, paths, &bytes, told, &index, watch, said)?)
+}
+
+/// What each of some words asks for, or the first of them that ask for no package.
+fn questions_in<'a>(
+    alloc: Global,
+    packages: &[&'a str],
+) -> Result<Result<Vec<(&'a str, Question)>, &'a str>, AllocError> {
+    let mut asked = Vec::new(alloc);
+    for words in packages {
+        let Some(question) = question_in(alloc, words)? else {
+            return Ok(Err(words));
+        };
+        asked.push((*words, question))?;
+    }
+    Ok(Ok(asked))
+}
+
+pub(crate) fn update_at<'a, R: Files + Clock + Eprint + AllocGlobal + Clone + Drop>(
+    rt: &R,
+    paths: &'a Paths<'a>,
+    packages: &[&str],
+    wish: Wish,
+    watch: Watch,
+    said: &mut Said,
+) -> Result<Outcome, Failure<'a>> {
+    let asked = match questions_in(rt.alloc(), packages)? {
+        Ok(asked) => asked,
+        Err(words) => return Err(Failure::NoPackage(String::from_str(rt.alloc(), words)?)),
+    };
+    let bytes = read_files(rt, paths, false)?;
+    let wish = checked(rt, paths, &bytes, wish, said)?;
+    let mut index = index_at(rt, paths, watch)?;
+    let told = update_told(rt.alloc(), &mut index, paths, &bytes, &asked, wish, said);
+    Ok(ended(rt, paths, &bytes, told, &index, watch, said)?)
+}
+
+/// The version that a text is.
+fn version_of<'a>(alloc: Global, text: &str) -> Result<Version, Failure<'a>> {
+    match Version::parse(alloc, text) {
+        Ok(version) => Ok(version),
+        Err(error) if error == semver::Error::from(AllocError) => Err(Failure::OutOfMemory),
+        Err(_) => Err(Failure::NoVersion(String::from_str(alloc, text)?)),
+    }
+}
+
+/// The same where one package is to have a version.
+pub(crate) fn precise_at<'a, R: Files + Clock + Eprint + AllocGlobal + Clone + Drop>(
+    rt: &R,
+    paths: &'a Paths<'a>,
+    packages: &[&str],
+    version: &str,
+    wish: Wish,
+    watch: Watch,
+    said: &mut Said,
+) -> Result<Outcome, Failure<'a>> {
+    let alloc = rt.alloc();
+    let [words] = packages else {
+        return Err(Failure::NotOne);
+    };
+    let Some(question) = question_in(alloc, words)? else {
+        return Err(Failure::NoPackage(String::from_str(alloc, words)?));
+    };
+    let version = version_of(alloc, version)?;
+    let bytes = with_lock(rt, paths)?;
+    let wish = checked(rt, paths, &bytes, wish, said)?;
+    let mut index = index_at(rt, paths, watch)?;
+    let told = precisely(
+        rt, &mut index, paths, &bytes, words, &question, version, wish, said,
+    );
+    Ok(ended(rt, paths, &bytes, told, &index, watch, said)?)
+}
+
+fn precisely<R: Files + Clock + Eprint + AllocGlobal + Clone + Drop>(
+    rt: &R,
+    index: &mut Index<'_, R>,
+    paths: &Paths<'_>,
+    bytes: &Bytes,
+    words: &str,
+    question: &Question,
+    version: Version,
+    wish: Wish,
+    said: &mut Said,
+) -> Result<Outcome, Fault> {
+    let alloc = rt.alloc();
+    let (precise, pins) = match precise_in(alloc, paths, bytes, words, question, version, said)? {
+        Ok(found) => found,
+        Err(outcome) => return Ok(outcome),
+    };
+    let mut pinned = Pinned::new(folder_at(rt, paths)?, pins);
+    precise_told(
+        alloc,
+        index,
+        &mut pinned,
+        paths,
+        bytes,
+        &precise,
+        wish,
+        said,
+    )
 }
 
 pub(crate) fn verify_at<'a, R: Files + Clock + Eprint + AllocGlobal + Clone + Drop>(
@@ -80,9 +243,9 @@ pub(crate) fn verify_at<'a, R: Files + Clock + Eprint + AllocGlobal + Clone + Dr
     said: &mut Said,
 ) -> Result<Outcome, Failure<'a>> {
     let bytes = with_lock(rt, paths)?;
-    let mut folder = counted(rt, paths.index, watch)?;
-    let told = verify_told(rt.alloc(), &mut folder, paths, &bytes, said);
-    Ok(ended(rt.alloc(), paths, &bytes, told, folder.seen(), said)?)
+    let mut index = index_at(rt, paths, watch)?;
+    let told = verify_told(rt.alloc(), &mut index, paths, &bytes, said);
+    Ok(ended(rt, paths, &bytes, told, &index, watch, said)?)
 }
 
 pub(crate) fn why_at<'a, R: Files + Clock + Eprint + AllocGlobal + Clone + Drop>(
@@ -98,10 +261,10 @@ pub(crate) fn why_at<'a, R: Files + Clock + Eprint + AllocGlobal + Clone + Drop>
         return Err(Failure::NoPackage(text));
     };
     let bytes = with_lock(rt, paths)?;
-    let mut folder = counted(rt, paths.index, watch)?;
+    let mut index = index_at(rt, paths, watch)?;
     let told = why_told(
         rt.alloc(),
-        &mut folder,
+        &mut index,
         paths,
         &bytes,
         package,
@@ -109,7 +272,7 @@ pub(crate) fn why_at<'a, R: Files + Clock + Eprint + AllocGlobal + Clone + Drop>
         all,
         said,
     );
-    Ok(ended(rt.alloc(), paths, &bytes, told, folder.seen(), said)?)
+    Ok(ended(rt, paths, &bytes, told, &index, watch, said)?)
 }
 
 /// What the files say, with the lock, which has to be there.
@@ -130,6 +293,16 @@ fn with_lock<'a, R: Files + AllocGlobal>(
     }
 }
 
+fn tell_all_read<R: Files + Clock + Eprint + AllocGlobal + Clone + Drop>(
+    alloc: Global,
+    paths: &Paths<'_>,
+    index: &Index<'_, R>,
+    said: &mut Said,
+) -> Result<(), AllocError> {
+    let seen = index.seen();
+    tell_read(alloc, paths.index.as_str(), seen.files, seen.lines, said)
+}
+
 pub(crate) fn skips_at<'a, R: Files + Clock + Eprint + AllocGlobal + Clone + Drop>(
     rt: &R,
     paths: &'a Paths<'a>,
@@ -138,13 +311,12 @@ pub(crate) fn skips_at<'a, R: Files + Clock + Eprint + AllocGlobal + Clone + Dro
     said: &mut Said,
 ) -> Result<Outcome, Failure<'a>> {
     let bytes = read_files(rt, paths, false)?;
-    let mut folder = counted(rt, paths.index, watch)?;
-    let told = skips_told(rt.alloc(), &mut folder, &bytes, all, said);
-    let seen = folder.seen();
+    let mut index = index_at(rt, paths, watch)?;
+    let told = skips_told(rt.alloc(), &mut index, &bytes, all, said);
     if told.is_ok() {
-        tell_read(rt.alloc(), paths.index, seen.files, seen.lines, said)?;
+        tell_all_read(rt.alloc(), paths, &index, said)?;
     }
-    Ok(ended(rt.alloc(), paths, &bytes, told, seen, said)?)
+    Ok(ended(rt, paths, &bytes, told, &index, watch, said)?)
 }
 
 /// The lines of the whole index, beside no manifest.
@@ -156,19 +328,19 @@ pub(crate) fn skips_at_all<'a, R: Files + Clock + Eprint + AllocGlobal + Clone +
     said: &mut Said,
 ) -> Result<Outcome, Failure<'a>> {
     let alloc = rt.alloc();
-    let files = paths_below(rt, paths.index)?;
-    let mut folder = counted(rt, paths.index, watch)?;
-    let told = skips_told_of_all(alloc, &mut folder, &files, all, said);
-    let seen = folder.seen();
+    let files = paths_below(rt, paths.index.as_str())?;
+    let mut index = index_at(rt, paths, watch)?;
+    let told = skips_told_of_all(alloc, &mut index, &files, all, said);
     if told.is_ok() {
-        tell_read(alloc, paths.index, seen.files, seen.lines, said)?;
+        tell_all_read(alloc, paths, &index, said)?;
     }
-    if seen.asked == 0 {
-        warn_of_none(alloc, paths.index, said)?;
+    if index.seen().asked == 0 {
+        warn_of_none(alloc, paths.index.as_str(), said)?;
     }
     let nothing = Bytes {
         manifest: Vec::new(alloc),
         lock: None,
+        source: String::new(alloc),
     };
-    Ok(ended(alloc, paths, &nothing, told, seen, said)?)
+    Ok(ended(rt, paths, &nothing, told, &index, watch, said)?)
 }

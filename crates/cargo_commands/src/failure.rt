@@ -13,9 +13,16 @@ pub(crate) enum Failure<'a> {
     /// There is no lock at this path, and one is needed; what the system says.
     NoLock(&'a str, io::Error),
     Unwritten(WriteFault<'a>),
-    /// Neither the words nor the environment name an index.
+    /// Neither the words nor the environment name an index, and Cargo fetched none.
     NoIndex,
     NoPackage(String),
+    NoVersion(String),
+    /// The words name this as the source of packages, and it is none.
+    NoSource(&'a str),
+    /// A version is asked for, but not of one package.
+    NotOne,
+    /// The manifest is a member of the workspace of the one at this path, and a lock was to be written.
+    Member(String),
     /// The environment has no word of `--color` where it has one for that.
     NoColor(&'a str),
     /// What the system says of standard output.
@@ -29,7 +36,13 @@ impl Failure<'_> {
             Failure::OutOfMemory => "fault",
             Failure::Unread(_) | Failure::NoLock(_, _) => "unread",
             Failure::Unwritten(_) | Failure::CannotWrite(_) => "unwritten",
-            Failure::NoIndex | Failure::NoPackage(_) | Failure::NoColor(_) => "usage",
+            Failure::NoIndex
+            | Failure::NoPackage(_)
+            | Failure::NoVersion(_)
+            | Failure::NoSource(_)
+            | Failure::NotOne
+            | Failure::NoColor(_) => "usage",
+            Failure::Member(_) => "workspace",
         }
     }
 }
@@ -42,9 +55,16 @@ impl fmt::Display for Failure<'_> {
             Failure::NoLock(path, error) => write!(f, "cannot read {path}: {error}"),
             Failure::Unwritten(fault) => write!(f, "{fault}"),
             Failure::NoIndex => f.write_str(
-                "no index is named: give --index DIR, or set RELOCK_INDEX",
+                "no index is named, and Cargo fetched none: give --index DIR, or set RELOCK_INDEX",
             ),
             Failure::NoPackage(text) => write!(f, "`{text}` is no NAME or NAME@VERSION"),
+            Failure::NoVersion(text) => write!(f, "`{text}` is no version"),
+            Failure::NoSource(text) => write!(f, "`{text}` is no source of packages"),
+            Failure::NotOne => f.write_str("--precise needs one package"),
+            Failure::Member(path) => write!(
+                f,
+                "nothing is written: the lock of a workspace lies beside {path}"
+            ),
             Failure::NoColor(word) => write!(
                 f,
                 "CARGO_TERM_COLOR must be auto, always, or never, but is `{word}`"

@@ -1,9 +1,10 @@
 //! One run of the program: words in, a status and two texts out.
 
-use crate::asking::{paths_of, resolve_at, skips_at, skips_at_all, verify_at, why_at};
+use crate::asking::{precise_at, resolve_at, skips_at, skips_at_all, update_at, verify_at, why_at};
 use crate::failure::Failure;
+use crate::places::paths_of;
 use crate::showing::{Shows, Surroundings, painted, shows_of};
-use cargo_words::{Asked, CargoWords, MessageFormat, WordsFault, own_words, read_words};
+use cargo_words::{Asked, CargoWords, Changing, MessageFormat, WordsFault, own_words, read_words};
 use colors::Painter;
 use outcomes::{FAILED, Form, Outcome, Said, Wish};
 use progress::Watch;
@@ -49,11 +50,8 @@ fn run_asked<'a, R: Files + Clock + Eprint + AllocGlobal + Clone + Drop, O: Writ
         MessageFormat::Json => Form::Programs,
         MessageFormat::Human => Form::People,
     };
-    let watch = if around.is_watched && !manner.quiet {
-        Watch::from_now(rt)
-    } else {
-        Watch::none()
-    };
+    let is_shown = around.is_watched && !manner.quiet;
+    let watch = Watch::from_now(rt, is_shown, manner.verbose && !manner.quiet);
     let Shows {
         out: show_out,
         err: show_err,
@@ -64,7 +62,7 @@ fn run_asked<'a, R: Files + Clock + Eprint + AllocGlobal + Clone + Drop, O: Writ
     run_command(
         rt,
         &asked.command,
-        around.index,
+        around,
         watch,
         &mut said,
         &mut out,
@@ -76,13 +74,13 @@ fn run_asked<'a, R: Files + Clock + Eprint + AllocGlobal + Clone + Drop, O: Writ
 fn run_command<'a, R: Files + Clock + Eprint + AllocGlobal + Clone + Drop, O: Write, E: Write>(
     rt: &R,
     command: &CargoWords<'a>,
-    index: Option<&'a str>,
+    around: &Surroundings<'a>,
     watch: Watch,
     said: &mut Said,
     out: &mut O,
     err: &mut E,
 ) -> u8 {
-    match paths_of(rt.alloc(), command.places(), index) {
+    match paths_of(rt, command.places(), around) {
         Ok(paths) => run_at(rt, command, &paths, watch, said, out, err),
         Err(failure) => failed(rt.alloc(), &failure, said, out, err),
     }
@@ -114,19 +112,21 @@ fn outcome_of<'p, R: Files + Clock + Eprint + AllocGlobal + Clone + Drop>(
 ) -> Result<Outcome, Failure<'p>> {
     match command {
         CargoWords::Resolve {
-            locked,
-            write,
+            changing,
             repair,
-            all,
+            ..
+        } => resolve_at(rt, paths, wish_of(changing, *repair), watch, said),
+        CargoWords::Update {
+            changing,
+            packages,
+            precise,
             ..
         } => {
-            let wish = Wish {
-                locked: *locked,
-                write: *write,
-                repair: *repair,
-                all: *all,
-            };
-            resolve_at(rt, paths, wish, watch, said)
+            let wish = wish_of(changing, false);
+            match precise {
+                Some(version) => precise_at(rt, paths, packages, version, wish, watch, said),
+                None => update_at(rt, paths, packages, wish, watch, said),
+            }
         }
         CargoWords::Verify { .. } => verify_at(rt, paths, watch, said),
         CargoWords::Why { package, all, .. } => why_at(rt, paths, package, *all, watch, said),
@@ -137,6 +137,17 @@ fn outcome_of<'p, R: Files + Clock + Eprint + AllocGlobal + Clone + Drop>(
                 skips_at(rt, paths, *all, watch, said)
             }
         }
+    }
+}
+
+fn wish_of(changing: &Changing, repair: bool) -> Wish {
+    Wish {
+        locked: changing.locked,
+        write: changing.write,
+        repair,
+        all: changing.all,
+        ignore_rust_version: changing.ignore_rust_version,
+        is_member: false,
     }
 }
 

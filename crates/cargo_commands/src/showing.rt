@@ -11,6 +11,8 @@ use std::io::Write;
 pub struct Surroundings<'a> {
     /// The index where the words name none.
     pub index: Option<&'a str>,
+    /// Cargo's home, in which it keeps what it fetched of an index.
+    pub cargo_home: Option<&'a str>,
     /// What stands for `--color` where the words don't give it.
     pub color: Option<&'a str>,
     /// Whether a terminal is to show no colors unless the words say so.
@@ -26,6 +28,7 @@ impl<'a> Surroundings<'a> {
     pub fn bare(index: Option<&'a str>) -> Surroundings<'a> {
         Surroundings {
             index,
+            cargo_home: None,
             color: None,
             no_color: false,
             out_is_terminal: false,

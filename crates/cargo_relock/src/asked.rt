@@ -13,6 +13,7 @@ pub(crate) struct Asked {
     /// Whether a terminal shows text alone.
     pub(crate) is_dumb: bool,
     index: Option<String>,
+    cargo_home: Option<String>,
     color: Option<String>,
 }
 
@@ -20,6 +21,11 @@ impl Asked {
     /// The index that the environment names.
     pub(crate) fn index(&self) -> Option<&str> {
         text_if(&self.index)
+    }
+
+    /// Where Cargo keeps what it fetched.
+    pub(crate) fn cargo_home(&self) -> Option<&str> {
+        text_if(&self.cargo_home)
     }
 
     /// What the environment says of colors.
@@ -43,6 +49,7 @@ pub(crate) fn what_is_asked(rt: &HostRuntime) -> io::Result<Asked> {
         "CARGO_TERM_COLOR",
         "CARGO_TERM_COLOR is no valid Unicode",
     )?;
+    let cargo_home = cargo_home(rt)?;
     let no_color = says(rt, "NO_COLOR", None)?;
     let is_dumb = says(rt, "TERM", Some("dumb"))?;
     Ok(Asked {
@@ -50,8 +57,20 @@ pub(crate) fn what_is_asked(rt: &HostRuntime) -> io::Result<Asked> {
         no_color,
         is_dumb,
         index,
+        cargo_home,
         color,
     })
+}
+
+/// Cargo's home, as Cargo finds it (Cargo book, "Cargo Home").
+fn cargo_home(rt: &HostRuntime) -> io::Result<Option<String>> {
+    if let Some(home) = said(rt, "CARGO_HOME", "CARGO_HOME is no valid Unicode")? {
+        return Ok(Some(home));
+    }
+    match said(rt, "HOME", "HOME is no valid Unicode")? {
+        Some(home) => Ok(Some(format!(in rt.alloc(); "{home}/.cargo")?)),
+        None => Ok(None),
+    }
 }
 
 /// What the environment says under a name; an empty text says nothing.

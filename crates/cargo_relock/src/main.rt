@@ -25,6 +25,7 @@ fn main(rt: HostRuntime) -> io::Result<ExitCode> {
 fn around<'a>(rt: &HostRuntime, asked: &'a Asked) -> Surroundings<'a> {
     Surroundings {
         index: asked.index(),
+        cargo_home: asked.cargo_home(),
         color: asked.color(),
         no_color: asked.no_color,
         out_is_terminal: rt.stdout().is_terminal() && !asked.is_dumb,

@@ -7,6 +7,16 @@ use std::alloc::{AllocError, Global};
 /// The version of the program.
 const VERSION: &str = "0.1.0";
 
+/// What a first day needs.
+const EXAMPLES: &str = "\
+Examples:
+  cargo relock resolve              what would change in Cargo.lock
+  cargo relock resolve --write      the same, and it is written
+  cargo relock resolve --locked -q  status 1 if something would change
+  cargo relock update serde         what a newer serde would change
+  cargo relock why serde            why serde is there
+  cargo relock verify               whether Cargo.lock is valid";
+
 /// The whole program: one command is required. How it tells what it finds may be said before the command or after it.
 pub(crate) fn cargo_relock<'a>(alloc: Global) -> Result<Command<'a>, AllocError> {
     let program = Command::new(alloc, "cargo-relock")
@@ -14,9 +24,11 @@ pub(crate) fn cargo_relock<'a>(alloc: Global) -> Result<Command<'a>, AllocError>
             "Resolves over an index in a folder, with answers that are proved right: what changes in a lock, and why",
         )
         .version(VERSION)
+        .after_help(EXAMPLES)
         .subcommand_required(true);
     let program = with_manner(alloc, program)?;
     let program = program.subcommand(resolve(alloc)?)?;
+    let program = program.subcommand(update(alloc)?)?;
     let program = program.subcommand(verify(alloc)?)?;
     let program = program.subcommand(why(alloc)?)?;
     program.subcommand(skips(alloc)?)
@@ -28,9 +40,27 @@ fn resolve<'a>(alloc: Global) -> Result<Command<'a>, AllocError> {
         "resolve",
         "Tells how the lock would change, or why there is none",
     )?;
+    let command = with_option(command, repair(alloc))?;
+    changing(alloc, command)
+}
+
+fn update<'a>(alloc: Global) -> Result<Command<'a>, AllocError> {
+    let command = command(
+        alloc,
+        "update",
+        "Tells how the lock would change were these packages, or all, locked anew",
+    )?;
+    let command = with_option(command, packages(alloc))?;
+    let command = with_option(command, precise(alloc))?;
+    changing(alloc, command)
+}
+
+/// A command with the options of those that may change the lock.
+fn changing<'a>(alloc: Global, command: Command<'a>) -> Result<Command<'a>, AllocError> {
     let command = with_option(command, locked(alloc))?;
     let command = with_option(command, write(alloc))?;
-    let command = with_option(command, repair(alloc))?;
+    let command = with_option(command, dry_run(alloc))?;
+    let command = with_option(command, ignore_rust_version(alloc))?;
     let all = all(
         alloc,
         "Tells too what stays behind its newest version, and the whole of a long refusal",
@@ -66,7 +96,8 @@ fn command<'a>(alloc: Global, name: &'a str, about: &'a str) -> Result<Command<'
     let command = Command::new(alloc, name).about(about);
     let command = with_option(command, manifest(alloc))?;
     let command = with_option(command, lock(alloc))?;
-    with_option(command, index(alloc))
+    let command = with_option(command, index(alloc))?;
+    with_option(command, source(alloc))
 }
 
 /// A command with another option.
@@ -80,7 +111,7 @@ pub(crate) fn with_option<'a>(
 fn manifest<'a>(alloc: Global) -> Arg<'a> {
     option(alloc, "manifest-path")
         .value_name("PATH")
-        .help("The Cargo.toml [default: Cargo.toml]")
+        .help("The Cargo.toml [default: the nearest, here or above]")
 }
 
 fn lock<'a>(alloc: Global) -> Arg<'a> {
@@ -91,7 +122,13 @@ fn lock<'a>(alloc: Global) -> Arg<'a> {
 
 fn index<'a>(alloc: Global) -> Arg<'a> {
     option(alloc, "index").value_name("DIR").help(
-        "A folder in the layout of Cargo's registry index [default: what RELOCK_INDEX says]",
+        "A folder in the layout of Cargo's registry index [default: what RELOCK_INDEX says, else what Cargo fetched]",
+    )
+}
+
+fn source<'a>(alloc: Global) -> Arg<'a> {
+    option(alloc, "source").value_name("URL").help(
+        "The source of the index's packages in a lock [default: crates.io]",
     )
 }
 
@@ -102,8 +139,31 @@ fn package<'a>(alloc: Global) -> Arg<'a> {
         .help("The package")
 }
 
+fn packages<'a>(alloc: Global) -> Arg<'a> {
+    Arg::new(alloc, "package")
+        .num_args(0..)
+        .value_name("NAME[@VERSION]")
+        .help("Packages of the lock [default: all]")
+}
+
+fn ignore_rust_version<'a>(alloc: Global) -> Arg<'a> {
+    flag(alloc, "ignore-rust-version").help(
+        "Prefers the newest versions where edition 2024 or resolver 3 prefers what fits `rust-version`",
+    )
+}
+
 fn locked<'a>(alloc: Global) -> Arg<'a> {
     flag(alloc, "locked").help("Ends with status 1 if something would change")
+}
+
+fn precise<'a>(alloc: Global) -> Arg<'a> {
+    option(alloc, "precise").value_name("VERSION").help(
+        "Locks the one package at this version, or tells why it can't be",
+    )
+}
+
+fn dry_run<'a>(alloc: Global) -> Arg<'a> {
+    flag(alloc, "dry-run").help("Writes nothing, as without --write; wins over it")
 }
 
 fn write<'a>(alloc: Global) -> Arg<'a> {
@@ -111,7 +171,9 @@ fn write<'a>(alloc: Global) -> Arg<'a> {
 }
 
 fn repair<'a>(alloc: Global) -> Arg<'a> {
-    flag(alloc, "repair").help("Goes on where the Cargo.lock can't be read, with what of it can be")
+    flag(alloc, "repair").help(
+        "Goes on where the Cargo.lock can't be read, or has versions that the index lacks, with what is left",
+    )
 }
 
 fn all<'a>(alloc: Global, help: &'a str) -> Arg<'a> {

@@ -12,5 +12,5 @@ mod manner;
 mod reading;
 
 pub use manner::{Color, Manner, MessageFormat, color_in};
-pub use reading::{Asked, CargoWords, Places, own_words, read_words};
+pub use reading::{Asked, CargoWords, Changing, Places, own_words, read_words};
 pub use words::WordsFault;

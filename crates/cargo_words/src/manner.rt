@@ -28,6 +28,8 @@ pub struct Manner {
     pub color: Option<Color>,
     /// Whether errors alone are told.
     pub quiet: bool,
+    /// Whether it is told too how long a run took, and how much of the index it read.
+    pub verbose: bool,
     pub format: MessageFormat,
 }
 
@@ -44,6 +46,7 @@ pub(crate) fn with_manner<'a>(
 ) -> Result<Command<'a>, AllocError> {
     let command = with_option(command, message_format(alloc))?;
     let command = with_option(command, coloring(alloc))?;
+    let command = with_option(command, verbose(alloc))?;
     with_option(command, quiet(alloc))
 }
 
@@ -70,11 +73,18 @@ fn quiet<'a>(alloc: Global) -> Arg<'a> {
         .help("Tells errors alone")
 }
 
+fn verbose<'a>(alloc: Global) -> Arg<'a> {
+    flag(alloc, "verbose").short('v').global(true).help(
+        "Tells too what stays behind its newest version, the time, and how much was read",
+    )
+}
+
 /// How the words of a command ask it to tell what it finds.
 pub(crate) fn manner_of(found: &ArgMatches<'_>) -> Manner {
     Manner {
         color: color_of(found),
         quiet: found.get_flag("quiet"),
+        verbose: found.get_flag("verbose"),
         format: format_of(found),
     }
 }

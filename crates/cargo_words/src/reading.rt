@@ -12,6 +12,19 @@ pub struct Places<'a> {
     pub manifest: Option<&'a str>,
     pub lock: Option<&'a str>,
     pub index: Option<&'a str>,
+    /// The source of the packages of the index.
+    pub source: Option<&'a str>,
+}
+
+/// What the commands are to do that may change the lock.
+#[derive(Clone, Copy, Debug)]
+pub struct Changing {
+    pub locked: bool,
+    /// Without `--dry-run`.
+    pub write: bool,
+    /// `-v` asks for this too, as with Cargo.
+    pub all: bool,
+    pub ignore_rust_version: bool,
 }
 
 /// A command, with what its options say.
@@ -19,10 +32,16 @@ pub struct Places<'a> {
 pub enum CargoWords<'a> {
     Resolve {
         places: Places<'a>,
-        locked: bool,
-        write: bool,
+        changing: Changing,
         repair: bool,
-        all: bool,
+    },
+    Update {
+        places: Places<'a>,
+        changing: Changing,
+        /// Each `NAME` or `NAME@VERSION`; none for all.
+        packages: Vec<&'a str>,
+        /// The version that the one package gets.
+        precise: Option<&'a str>,
     },
     Verify {
         places: Places<'a>,
@@ -44,6 +63,7 @@ impl<'a> CargoWords<'a> {
     pub fn places(&self) -> Places<'a> {
         match self {
             CargoWords::Resolve { places, .. }
+            | CargoWords::Update { places, .. }
             | CargoWords::Verify { places }
             | CargoWords::Why { places, .. }
             | CargoWords::Skips { places, .. } => *places,
@@ -83,7 +103,7 @@ fn names(words: &[String]) -> usize {
 /// The command and the options that words give, the program's name first.
 pub fn read_words<'a>(alloc: Global, words: &'a [&'a str]) -> Result<Asked<'a>, WordsFault> {
     match cargo_relock(alloc)?.try_get_matches_from(words) {
-        Ok(matches) => match asked_by(&matches) {
+        Ok(matches) => match asked_by(alloc, &matches)? {
             Some(asked) => Ok(asked),
             None => Err(WordsFault::Wrong(String::new(alloc))),
         },
@@ -91,24 +111,41 @@ pub fn read_words<'a>(alloc: Global, words: &'a [&'a str]) -> Result<Asked<'a>, 
     }
 }
 
-fn asked_by<'a>(matches: &ArgMatches<'a>) -> Option<Asked<'a>> {
-    let (_, found) = matches.subcommand()?;
-    Some(Asked {
-        command: words_of(matches)?,
-        manner: manner_of(found),
+fn asked_by<'a>(alloc: Global, matches: &ArgMatches<'a>) -> Result<Option<Asked<'a>>, AllocError> {
+    let Some((name, found)) = matches.subcommand() else {
+        return Ok(None);
+    };
+    let manner = manner_of(found);
+    if name == "update" {
+        let command = update_in(alloc, found)?;
+        return Ok(Some(Asked { command, manner }));
+    }
+    match words_of(name, found) {
+        Some(command) => Ok(Some(Asked { command, manner })),
+        None => Ok(None),
+    }
+}
+
+fn update_in<'a>(alloc: Global, found: &ArgMatches<'a>) -> Result<CargoWords<'a>, AllocError> {
+    let mut packages = Vec::new(alloc);
+    if let Some(given) = found.get_strs("package") {
+        packages.extend_from_slice(given)?;
+    }
+    Ok(CargoWords::Update {
+        places: places_of(found),
+        changing: changing_in(found),
+        packages,
+        precise: found.get_str("precise"),
     })
 }
 
-fn words_of<'a>(matches: &ArgMatches<'a>) -> Option<CargoWords<'a>> {
-    let (name, found) = matches.subcommand()?;
+fn words_of<'a>(name: &str, found: &ArgMatches<'a>) -> Option<CargoWords<'a>> {
     let places = places_of(found);
     match name {
         "resolve" => Some(CargoWords::Resolve {
             places,
-            locked: found.get_flag("locked"),
-            write: found.get_flag("write"),
+            changing: changing_in(found),
             repair: found.get_flag("repair"),
-            all: found.get_flag("all"),
         }),
         "verify" => Some(CargoWords::Verify { places }),
         "why" => Some(CargoWords::Why {
@@ -124,10 +161,20 @@ fn words_of<'a>(matches: &ArgMatches<'a>) -> Option<CargoWords<'a>> {
     }
 }
 
+fn changing_in(found: &ArgMatches<'_>) -> Changing {
+    Changing {
+        locked: found.get_flag("locked"),
+        write: found.get_flag("write") && !found.get_flag("dry-run"),
+        all: found.get_flag("all") || found.get_flag("verbose"),
+        ignore_rust_version: found.get_flag("ignore-rust-version"),
+    }
+}
+
 fn places_of<'a>(found: &ArgMatches<'a>) -> Places<'a> {
     Places {
         manifest: found.get_str("manifest-path"),
         lock: found.get_str("lockfile-path"),
         index: found.get_str("index"),
+        source: found.get_str("source"),
     }
 }

@@ -10,7 +10,7 @@
 //! case's folder. After the words `>> PATH` appends standard output to a file and `2>> PATH`, behind it, standard error;
 //! nothing is told of a text that goes there. Files are made in the folder `made` alone, which is empty at first.
 //! `cargo-relock WORD ..` is a run of the second program, in whose environment is what stands before it, of
-//! `RELOCK_INDEX`, `CARGO_TERM_COLOR` and `NO_COLOR`; both texts go to a terminal where `TERM=xterm` does.
+//! `RELOCK_INDEX`, `CARGO_HOME`, `CARGO_TERM_COLOR` and `NO_COLOR`; both texts go to a terminal where `TERM=xterm` does.
 //!
 //! `repeat COUNT TEXT` writes the text COUNT times, with a space for each `_`, a line end for each `;`, and for `@` the
 //! number of the time in five digits; `cat PATH` writes the bytes of a file; `cmp PATH PATH` ends with status 1 where two

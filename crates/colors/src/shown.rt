@@ -1,7 +1,6 @@
 //! Characters of strangers' files, before a terminal gets them.
 
 use std::alloc::{AllocError, Global};
-use std::str::from_utf8;
 
 /// How a control character is told.
 #[derive(Clone, Copy, Debug, PartialEq, Eq)]
@@ -12,12 +11,12 @@ pub(crate) enum Escape {
     Json,
 }
 
-/// The same text with each control character but line ends and tabs told by its number: what a file says may have any,
-/// and a terminal would obey them.
+/// The same text, `\u{FFFD}` for what is none, with each control character but line ends and tabs told by its number:
+/// what a file says may have any, and a terminal would obey them.
 pub(crate) fn shown(alloc: Global, bytes: &[u8], escape: Escape) -> Result<String, AllocError> {
     let mut told = String::new(alloc);
-    // Nothing that is no text is ever told.
-    for char in from_utf8(bytes).unwrap_or("").chars() {
+    let text = String::from_utf8_lossy(alloc, bytes)?;
+    for char in text.as_str().chars() {
         push_shown(&mut told, char, escape)?;
     }
     Ok(told)

@@ -11,7 +11,7 @@ use std::fmt;
 
 /// What can be done about a lock that doesn't read.
 const REPAIR: &str =
-    "`cargo relock resolve --repair` keeps what can be read of it, of both sides of a merge too";
+    "`cargo relock resolve --repair` keeps what can be read of it, and takes the rest anew";
 
 /// What can be done about a checksum that changed.
 const CHECKSUMS: &str =

@@ -22,6 +22,10 @@ pub struct Outcome {
 }
 
 impl Outcome {
+    pub fn is_yes(&self) -> bool {
+        self.status == YES
+    }
+
     pub(crate) fn yes() -> Outcome
         ensures { ending_view result ≡ (0, None) }
     {

@@ -1,12 +1,18 @@
-//! What `resolve` ends with.
+//! What `resolve` and `update` end with.
 
 ghost use Rattle.std.specs.Prelude.{◌≡◌, IfOk};
 ghost use Rattle.outcomes.specs.Outcomes.{ending_of, ending_view};
 
-use crate::answers::{Form, NewLock, Repaired, changes_in, new_lock, readable_rest, refusal_in};
+use crate::answers::{
+    Form, NewLock, Repaired, Unlocked, changes_in, is_of_old_format, lock_in, lost_in, new_lock,
+    preferred_by_cargo, readable_rest, refusal_in, unlock,
+};
 use crate::faults::tell_misreading;
 use crate::outcome::Outcome;
 use crate::said::Said;
+use crate::verifying::warn_of_refused;
+use crate::why::{Question, no_way};
+use catalogue::Prefer;
 use derivations::Derivation;
 use index_reader::Folder;
 use messages::Severity;
@@ -14,13 +20,21 @@ use project_files::{Bytes, Paths};
 use resolver::{Answer, Fault};
 use std::alloc::{AllocError, Global};
 
-/// What `resolve` is to do beside telling.
+/// What can be done about locked versions that aren't there.
+const BEHIND: &str = "an index that is behind the lock has to be brought up to date; \
+else `cargo relock update` with these names takes other versions";
+
+/// What `resolve` and `update` are to do beside telling.
 #[derive(Clone, Copy, Debug)]
 pub struct Wish {
     pub locked: bool,
     pub write: bool,
     pub repair: bool,
     pub all: bool,
+    /// Prefers the newest versions where Cargo prefers those that the manifest's Rust version fits.
+    pub ignore_rust_version: bool,
+    /// The manifest is a member of a workspace, whose lock isn't its own.
+    pub is_member: bool,
 }
 
 /// What changes in the lock, or why there is none. With `repair` a lock that can't be read stops nothing.
@@ -35,32 +49,49 @@ pub fn resolve_told<F: Folder>(
     if wish.repair {
         if let Some(repaired) = readable_rest(alloc, bytes)? {
             tell_repair(alloc, paths, bytes, &repaired, said)?;
-            return resolved(alloc, folder, paths, &repaired.bytes, wish, said);
+            let bytes = &repaired.bytes;
+            return resolved(alloc, folder, paths, bytes, bytes, wish, said);
         }
     }
-    resolved(alloc, folder, paths, bytes, wish, said)
+    resolved(alloc, folder, paths, bytes, bytes, wish, said)
 }
 
+/// What `update` ends with: the packages that are asked for, or all where none is, lose their lock before.
+pub fn update_told<F: Folder>(
+    alloc: Global,
+    folder: &mut F,
+    paths: &Paths<'_>,
+    bytes: &Bytes,
+    asked: &[(&str, Question)],
+    wish: Wish,
+    said: &mut Said,
+) -> Result<Outcome, Fault> {
+    match unlock(alloc, bytes, asked)? {
+        Unlocked::Rest(rest) => resolved(alloc, folder, paths, bytes, &rest, wish, said),
+        Unlocked::NoPackage(words, why) => Ok(no_way(alloc, paths, words, why, said)?),
+    }
+}
+
+/// What changes in the lock of some files where it is resolved from others.
 fn resolved<F: Folder>(
     alloc: Global,
     folder: &mut F,
     paths: &Paths<'_>,
     bytes: &Bytes,
+    from: &Bytes,
     wish: Wish,
     said: &mut Said,
 ) -> Result<Outcome, Fault> {
-    let answer = new_lock(alloc, folder, bytes)?;
+    let prefer = preference(alloc, bytes, wish)?;
+    let answer = new_lock(alloc, folder, from, prefer)?;
     match &answer {
         Answer::Lock {
             bytes: new,
             kept,
-            ..
+            skips,
         } => {
-            let lock = NewLock {
-                bytes: new,
-                kept: *kept,
-            };
-            changed(alloc, folder, paths, bytes, lock, wish, said)
+            let lock = new_lock_of(bytes, new, *kept, prefer, skips.len());
+            locked(alloc, folder, paths, bytes, from, lock, wish, said)
         }
         Answer::Unsolvable {
             derivation,
@@ -70,29 +101,13 @@ fn resolved<F: Folder>(
             alloc,
             folder,
             paths,
-            bytes,
+            from,
             derivation,
             text.as_str(),
             wish,
             said,
         ),
     }
-}
-
-/// What changes in the lock, and what becomes of it.
-fn changed<F: Folder>(
-    alloc: Global,
-    folder: &mut F,
-    paths: &Paths<'_>,
-    bytes: &Bytes,
-    lock: NewLock<'_>,
-    wish: Wish,
-    said: &mut Said,
-) -> Result<Outcome, Fault> {
-    let path = paths.lock.as_str();
-    let text = changes_in(alloc, folder, bytes, path, lock, said.form(), wish.all)?;
-    said.answer(text.as_str())?;
-    Ok(with_new_lock(alloc, path, lock, wish, said)?)
 }
 
 /// Why there is no lock, by a derivation, whose own text is given too.
@@ -115,14 +130,93 @@ fn unsolvable<F: Folder>(
         said.form(),
         wish.all,
     )?;
-    Ok(no_lock(alloc, paths, why.as_str(), said)?)
+    Ok(no_lock(alloc, paths, "", why.as_str(), said)?)
 }
 
-/// What becomes of a lock that is another one than the old: with `--locked` that is an error, and `--write` hands it
-/// on. Without these it is told that nothing is written.
+/// A lock that `resolve` gives, beside the old one.
+pub(crate) fn new_lock_of<'a>(
+    old: &Bytes,
+    new: &'a [u8],
+    kept: bool,
+    prefer: Prefer,
+    skipped: usize,
+) -> NewLock<'a> {
+    NewLock {
+        bytes: new,
+        kept: kept || new == lock_in(old),
+        prefer,
+        skipped,
+    }
+}
+
+pub(crate) fn preference(alloc: Global, bytes: &Bytes, wish: Wish) -> Result<Prefer, AllocError> {
+    if wish.ignore_rust_version {
+        Ok(Prefer::Newest)
+    } else {
+        preferred_by_cargo(alloc, &bytes.manifest)
+    }
+}
+
+/// What changes in the lock, and what becomes of it. A locked version that the index can't give stops that, unless a
+/// repair is asked for: else an index that is behind would change it unasked.
+pub(crate) fn locked<F: Folder>(
+    alloc: Global,
+    folder: &mut F,
+    paths: &Paths<'_>,
+    bytes: &Bytes,
+    from: &Bytes,
+    lock: NewLock<'_>,
+    wish: Wish,
+    said: &mut Said,
+) -> Result<Outcome, Fault> {
+    if !lock.kept && !wish.repair {
+        let lost = lost_in(alloc, folder, from, lock.bytes)?;
+        if !lost.is_empty() {
+            return Ok(tell_lost(&lost, said)?);
+        }
+    }
+    let path = paths.lock.as_str();
+    let text = changes_in(alloc, folder, bytes, path, lock, said.form(), wish.all)?;
+    said.answer(text.as_str())?;
+    tell_skipped(alloc, lock.skipped, said)?;
+    if !lock.kept && is_of_old_format(alloc, bytes)? {
+        said.advice("the lock becomes one of format 4, which Cargo reads from 1.78 on")?;
+    }
+    let is_refused = !lock.kept && warn_of_refused(alloc, folder, lock.bytes, said)?;
+    let outcome = with_new_lock(alloc, path, bytes.lock.is_some(), lock, wish, said)?;
+    if !lock.kept && !wish.locked && !wish.write && !wish.is_member {
+        advise_to_write(alloc, path, is_refused, said)?;
+    }
+    Ok(outcome)
+}
+
+/// How many lines of the index weren't used.
+fn tell_skipped(alloc: Global, skipped: usize, said: &mut Said) -> Result<(), AllocError> {
+    match skipped {
+        0 => Ok(()),
+        1 => said.advice("1 line of the index can't be used; `cargo relock skips` tells why"),
+        _ => {
+            let text = format!(in alloc;
+                "{skipped} lines of the index can't be used; `cargo relock skips` tells why"
+            )?;
+            said.advice(text.as_str())
+        }
+    }
+}
+
+fn tell_lost(lost: &[String], said: &mut Said) -> Result<Outcome, AllocError> {
+    for sentence in lost.iter() {
+        said.error("not-in-index", sentence.as_str())?;
+    }
+    said.note(BEHIND)?;
+    Ok(Outcome::no())
+}
+
+/// What becomes of a lock that is another one than the old: with `--locked` that is an error, and `--write` hands it on.
 fn with_new_lock(
     alloc: Global,
     path: &str,
+    had_lock: bool,
     lock: NewLock<'_>,
     wish: Wish,
     said: &mut Said,
@@ -133,16 +227,35 @@ fn with_new_lock(
         return Ok(Outcome::yes());
     }
     if wish.locked {
-        let text = format!(in alloc; "{path} would change, and --locked was given")?;
+        let text = if had_lock {
+            format!(in alloc; "{path} would change, and --locked was given")?
+        } else {
+            format!(in alloc; "there is no {path}, and --locked was given")?
+        };
         said.error("would-change", text.as_str())?;
+        said.note("the same without --locked and with --write writes it")?;
         return Ok(Outcome::no());
     }
     if wish.write {
         return Ok(Outcome::with_lock(copied(alloc, lock.bytes)?));
     }
-    let text = format!(in alloc; "nothing is written; `--write` writes this to {path}")?;
-    said.advice(text.as_str())?;
     Ok(Outcome::yes())
+}
+
+/// That nothing is written, and what would write it.
+fn advise_to_write(
+    alloc: Global,
+    path: &str,
+    is_refused: bool,
+    said: &mut Said,
+) -> Result<(), AllocError> {
+    let but = if is_refused {
+        ", but Cargo refuses it"
+    } else {
+        ""
+    };
+    let text = format!(in alloc; "nothing is written; `--write` writes this to {path}{but}")?;
+    said.advice(text.as_str())
 }
 
 fn copied(alloc: Global, bytes: &[u8]) -> Result<Vec<u8>, AllocError>
@@ -153,15 +266,21 @@ fn copied(alloc: Global, bytes: &[u8]) -> Result<Vec<u8>, AllocError>
     Ok(copy)
 }
 
-/// Tells why there is no lock.
-fn no_lock(
+/// Tells why there is no lock, and `there`, where what is meant.
+pub(crate) fn no_lock(
     alloc: Global,
     paths: &Paths<'_>,
+    there: &str,
     why: &str,
     said: &mut Said,
 ) -> Result<Outcome, AllocError> {
     let manifest = paths.manifest;
-    let text = format!(in alloc; "no lock is possible for {manifest}")?;
+    let over = if paths.is_fetched {
+        " with what Cargo has fetched"
+    } else {
+        ""
+    };
+    let text = format!(in alloc; "no lock is possible for {manifest}{there}{over}")?;
     said.error("no-lock", text.as_str())?;
     said.below(why)?;
     Ok(Outcome::no())

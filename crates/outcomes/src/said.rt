@@ -60,6 +60,16 @@ impl Said {
         self.tell(Severity::Warning, kind, message, None)
     }
 
+    /// The same before all that was told.
+    pub(crate) fn first_warning(&mut self, kind: &str, message: &str) -> Result<(), AllocError> {
+        let mut first = Said::new(self.alloc, self.form, self.quiet);
+        first.warning(kind, message)?;
+        first.out.push_str(self.out.as_str())?;
+        first.err.push_str(self.err.as_str())?;
+        *self = first;
+        Ok(())
+    }
+
     /// A fault, as an error or as what the run goes on after.
     pub(crate) fn fault(&mut self, fault: &Fault, severity: Severity) -> Result<(), AllocError> {
         let sentence = Sentence(fault);

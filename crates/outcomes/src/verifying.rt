@@ -1,8 +1,9 @@
 //! What `verify` ends with.
 
-use crate::answers::{flaws_in, verdict_in, verdict_on};
+use crate::answers::{flaws_in, lock_in, verdict_in, verdict_on};
 use crate::outcome::Outcome;
 use crate::said::Said;
+use catalogue::Catalogue;
 use index_reader::Folder;
 use messages::Severity;
 use project_files::{Bytes, Paths};
@@ -19,7 +20,7 @@ pub fn verify_told<F: Folder>(
     said: &mut Said,
 ) -> Result<Outcome, Fault> {
     match verdict_on(alloc, folder, bytes) {
-        Ok(verdict) => judged(alloc, folder, paths, bytes, &verdict, said),
+        Ok((verdict, index)) => judged(alloc, folder, paths, bytes, &verdict, &index, said),
         Err(Fault::ChecksumChanged(name, version)) => {
             let fault = Fault::ChecksumChanged(name, version);
             changed(alloc, folder, bytes, &fault, said)
@@ -35,11 +36,13 @@ fn judged<F: Folder>(
     paths: &Paths<'_>,
     bytes: &Bytes,
     verdict: &Verdict,
+    index: &Catalogue,
     said: &mut Said,
 ) -> Result<Outcome, Fault> {
     let text = verdict_in(alloc, verdict, said.form())?;
     if matches!(verdict, Verdict::Valid) {
         said.answer(text.as_str())?;
+        warn_of_valid(alloc, folder, index, lock_in(bytes), said)?;
         return Ok(Outcome::yes());
     }
     let flaws = flaws_in(alloc, folder, bytes, said.form())?;
@@ -50,6 +53,37 @@ fn judged<F: Folder>(
     }
     said.advice("`cargo relock resolve` tells what a valid lock would change")?;
     Ok(Outcome::no())
+}
+
+/// What there is to say of a valid lock: which packages are yanked, and what Cargo refuses.
+fn warn_of_valid<F: Folder>(
+    alloc: Global,
+    folder: &mut F,
+    index: &Catalogue,
+    lock: &[u8],
+    said: &mut Said,
+) -> Result<(), Fault> {
+    let content = lockfile::read(alloc, lock)?;
+    for sentence in reports::yanked_in(alloc, index, &content)?.iter() {
+        said.warning("yanked", sentence.as_str())?;
+    }
+    warn_of_refused(alloc, folder, lock, said)?;
+    Ok(())
+}
+
+/// What Cargo refuses of a lock that is a valid selection, and whether it does.
+pub(crate) fn warn_of_refused<F: Folder>(
+    alloc: Global,
+    folder: &mut F,
+    lock: &[u8],
+    said: &mut Said,
+) -> Result<bool, Fault> {
+    let lock = lockfile::read(alloc, lock)?;
+    let sentences = reports::refused_by_cargo(alloc, folder, &lock)?;
+    for sentence in sentences.iter() {
+        said.warning("refused-by-cargo", sentence.as_str())?;
+    }
+    Ok(!sentences.is_empty())
 }
 
 /// Where errors alone are told, that a lock isn't valid is one.

@@ -21,7 +21,7 @@ pub enum Question {
 
 /// Why there is no way to tell.
 #[derive(Clone, Copy)]
-enum NoWay {
+pub(crate) enum NoWay {
     Absent,
     Unreached,
     /// Several packages have the part of a version.
@@ -89,7 +89,7 @@ fn answered<F: Folder>(
 }
 
 /// That there is no way to tell; of several packages none is meant, which Cargo takes for an error too.
-fn no_way(
+pub(crate) fn no_way(
     alloc: Global,
     paths: &Paths<'_>,
     words: &str,

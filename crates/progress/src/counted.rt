@@ -28,6 +28,11 @@ impl<'a, F: Folder + Drop, R: Clock + Eprint> Counted<'a, F, R> {
     pub fn seen(&self) -> Seen {
         self.seen
     }
+
+    /// The folder itself.
+    pub fn folder(&self) -> &F {
+        &self.folder
+    }
 }
 
 impl<F: Folder + Drop, R: Clock + Eprint> Folder for Counted<'_, F, R> {

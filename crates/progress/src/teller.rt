@@ -33,7 +33,7 @@ impl<'a, R: Clock + Eprint> Teller<'a, R> {
 
     /// Tells what was seen, where it is time to.
     pub(crate) fn tell(&mut self, seen: Seen) {
-        let Some(millis) = self.watch.millis(self.rt) else {
+        let Some(millis) = self.watch.shown(self.rt) else {
             return;
         };
         if millis < self.next {

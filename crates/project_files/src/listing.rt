@@ -38,6 +38,18 @@ fn listed<R: Files + AllocGlobal + Clone + Drop>(rt: &R, index: &str) -> io::Res
     Ok(paths)
 }
 
+/// The names in a folder.
+pub(crate) fn list_names<R: Files + AllocGlobal + Clone + Drop>(
+    rt: &R,
+    folder: &str,
+) -> io::Result<Vec<String>> {
+    let mut names = Vec::new(rt.alloc());
+    for entry in fs::read_dir(rt, folder)? {
+        names.push(String::from_str(rt.alloc(), entry?.file_name())?)?;
+    }
+    Ok(names)
+}
+
 /// Adds the paths of the files in a folder below the index, and answers those of its folders.
 fn list<R: Files + AllocGlobal + Clone + Drop>(
     rt: &R,

@@ -7,7 +7,11 @@ use std::alloc::{AllocError, Global};
 pub struct Paths<'a> {
     pub manifest: &'a str,
     pub lock: String,
-    pub index: &'a str,
+    pub index: String,
+    /// Whether the index is what Cargo fetched of it.
+    pub is_fetched: bool,
+    /// The source of the packages of the index, as locks have it.
+    pub source: &'a str,
 }
 
 /// The path of the lock: the one that is named, else `Cargo.lock` beside the manifest.

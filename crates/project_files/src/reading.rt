@@ -10,16 +10,17 @@ use std::io::{self, ErrorKind, Read};
 use std::rt::Files;
 
 /// How many bytes of a manifest are read: one more than it may have.
-const MANIFEST_BYTES: u64 = 1_048_577;
+pub(crate) const MANIFEST_BYTES: u64 = 1_048_577;
 
 /// How many bytes of a lock are read: one more than it may have.
 const LOCK_BYTES: u64 = 67_108_865;
 
-/// The bytes of a manifest, and of a lock if there is one.
+/// The bytes of a manifest, and of a lock if there is one; and the source of the packages of the index.
 #[derive(Drop)]
 pub struct Bytes {
     pub manifest: Vec<u8>,
     pub lock: Option<Vec<u8>>,
+    pub source: String,
 }
 
 /// What the files say, if they are there: the lock may be missing unless it is needed, the index has to be a folder.
@@ -28,13 +29,20 @@ pub fn read_files<'a, R: Files + AllocGlobal>(
     paths: &'a Paths<'a>,
     needs_lock: bool,
 ) -> Result<Bytes, ReadFault<'a>>
-    ensures { IfErr result (λ fault. IsAbout paths.entry.now.index.now fault
+    ensures { IfErr result (λ fault. IsAbout (string_bytes paths.entry.now.index) fault
         ⊎ IsAbout paths.entry.now.manifest.now fault ⊎ IsAbout (string_bytes paths.entry.now.lock) fault) }
 {
-    check_index(rt, paths.index)?;
+    check_index(rt, paths.index.as_str())?;
     let manifest = read_file(rt, paths.manifest, MANIFEST_BYTES)?;
     let lock = read_lock(rt, paths.lock.as_str(), needs_lock)?;
-    Ok(Bytes { manifest, lock })
+    let Ok(source) = String::from_str(rt.alloc(), paths.source) else {
+        return Err(ReadFault::OutOfMemory);
+    };
+    Ok(Bytes {
+        manifest,
+        lock,
+        source,
+    })
 }
 
 fn read_file<'a, R: Files + AllocGlobal>(
@@ -85,7 +93,11 @@ pub(crate) fn check_index<'a, R: Files>(rt: &R, path: &'a str) -> Result<(), Rea
 }
 
 /// The first bytes of a file, but at most this many.
-fn front_of<R: Files + AllocGlobal>(rt: &R, path: &str, most: u64) -> io::Result<Vec<u8>> {
+pub(crate) fn front_of<R: Files + AllocGlobal>(
+    rt: &R,
+    path: &str,
+    most: u64,
+) -> io::Result<Vec<u8>> {
     let mut bytes = Vec::new(rt.alloc());
     fs::open(rt, path)?.take(most).read_to_end(&mut bytes)?;
     Ok(bytes)

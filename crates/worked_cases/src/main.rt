@@ -54,6 +54,7 @@ fn with_word<'a>(around: Surroundings<'a>, word: &'a str) -> Option<Surroundings
     let mut around = around;
     match name {
         "RELOCK_INDEX" => around.index = Some(value),
+        "CARGO_HOME" => around.cargo_home = Some(value),
         "CARGO_TERM_COLOR" => around.color = Some(value),
         "NO_COLOR" => around.no_color = true,
         "TERM" => {

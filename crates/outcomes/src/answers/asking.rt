@@ -1,18 +1,18 @@
 //! What the calls of `resolver` answer.
 
-use catalogue::{Prefer, Source, SourceFault};
+use catalogue::{Catalogue, Prefer, Source, SourceFault};
 use index_reader::Folder;
 use manifest::Manifest;
 use project_files::Bytes;
 use reports::Inputs;
-use resolver::{Answer, Fault, resolve, verify_bytes};
+use resolver::{Answer, Fault, resolve, verify_bytes_keeping};
 use selection::Verdict;
 use std::alloc::{AllocError, Global};
 
-/// The source of all packages of an index.
-const CRATES_IO: &str = "registry+https://github.com/rust-lang/crates.io-index";
+/// The source of the packages of an index, where no other is named.
+pub const CRATES_IO: &str = "registry+https://github.com/rust-lang/crates.io-index";
 
-fn own_source(alloc: Global) -> Result<Source, AllocError> {
+fn crates_io(alloc: Global) -> Result<Source, AllocError> {
     match Source::parse(alloc, CRATES_IO) {
         Ok(source) => Ok(source),
         Err(SourceFault::OutOfMemory) => Err(AllocError),
@@ -20,35 +20,38 @@ fn own_source(alloc: Global) -> Result<Source, AllocError> {
     }
 }
 
-/// What `resolve` answers, the newest versions preferred.
+/// The source of a run; a text that is none stands for crates.io.
+fn own_source(alloc: Global, bytes: &Bytes) -> Result<Source, AllocError> {
+    match Source::parse(alloc, bytes.source.as_str()) {
+        Ok(source) => Ok(source),
+        Err(SourceFault::OutOfMemory) => Err(AllocError),
+        Err(SourceFault::NotASource) => crates_io(alloc),
+    }
+}
+
+/// What `resolve` answers.
 pub(crate) fn new_lock<F: Folder>(
     alloc: Global,
     folder: &mut F,
     bytes: &Bytes,
+    prefer: Prefer,
 ) -> Result<Answer, Fault> {
-    let source = own_source(alloc)?;
+    let source = own_source(alloc, bytes)?;
     let lock = match &bytes.lock {
         Some(lock) => Some(lock.as_slice()),
         None => None,
     };
-    resolve(
-        alloc,
-        &bytes.manifest,
-        folder,
-        lock,
-        &source,
-        Prefer::Newest,
-    )
+    resolve(alloc, &bytes.manifest, folder, lock, &source, prefer)
 }
 
-/// Whether the lock is valid.
+/// Whether the lock is valid, and what was loaded for that.
 pub(crate) fn verdict_on<F: Folder>(
     alloc: Global,
     folder: &mut F,
     bytes: &Bytes,
-) -> Result<Verdict, Fault> {
-    let source = own_source(alloc)?;
-    verify_bytes(alloc, &bytes.manifest, folder, lock_in(bytes), &source)
+) -> Result<(Verdict, Catalogue), Fault> {
+    let source = own_source(alloc, bytes)?;
+    verify_bytes_keeping(alloc, &bytes.manifest, folder, lock_in(bytes), &source)
 }
 
 /// The bytes of the lock; none where there is no lock.
@@ -59,17 +62,18 @@ pub(crate) fn lock_in(bytes: &Bytes) -> &[u8] {
     }
 }
 
-/// What the files say, for a report.
+/// What the files say, for a report, the newest versions preferred.
 pub(crate) fn inputs_in(alloc: Global, bytes: &Bytes) -> Result<Inputs, Fault> {
     let manifest = Manifest::read(alloc, &bytes.manifest)?;
     let lock = match &bytes.lock {
         Some(lock) => Some(lockfile::read(alloc, lock)?),
         None => None,
     };
-    let source = own_source(alloc)?;
+    let source = own_source(alloc, bytes)?;
     Ok(Inputs {
         manifest,
         lock,
         source,
+        prefer: Prefer::Newest,
     })
 }

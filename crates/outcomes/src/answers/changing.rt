@@ -2,10 +2,10 @@
 
 use crate::answers::asking::inputs_in;
 use crate::answers::form::Form;
+use catalogue::Prefer;
 use derivations::Derivation;
 use index_reader::Folder;
 use project_files::Bytes;
-use reports::Inputs;
 use resolver::Fault;
 use std::alloc::Global;
 
@@ -15,6 +15,10 @@ pub(crate) struct NewLock<'a> {
     pub bytes: &'a [u8],
     /// Whether these are the old one's own bytes.
     pub kept: bool,
+    /// Which versions were preferred.
+    pub prefer: Prefer,
+    /// How many lines of the index weren't used.
+    pub skipped: usize,
 }
 
 /// What changes from the lock, which is at a path, to a new one.
@@ -27,16 +31,18 @@ pub(crate) fn changes_in<F: Folder>(
     form: Form,
     all: bool,
 ) -> Result<String, Fault> {
-    let inputs = inputs_in(alloc, bytes)?;
+    let mut inputs = inputs_in(alloc, bytes)?;
+    inputs.prefer = new.prefer;
+    let catalogue = reports::loaded(alloc, folder, &inputs)?;
     let content = lockfile::read(alloc, new.bytes)?;
     let text = match form {
-        Form::People => reports::changes_to(alloc, folder, &inputs, &content, all)?,
+        Form::People => reports::changes_to(alloc, &catalogue, &inputs, &content, all)?,
         Form::Programs => {
             let lock = messages::NewLock {
                 path,
                 changed: !new.kept,
             };
-            messages::changes_to(alloc, folder, &inputs, &content, lock, all)?
+            messages::changes_to(alloc, &catalogue, &inputs, &content, lock, all)?
         }
     };
     Ok(text)
@@ -54,30 +60,35 @@ pub(crate) fn refusal_in<F: Folder>(
     all: bool,
 ) -> Result<String, Fault> {
     let inputs = inputs_in(alloc, bytes)?;
+    let catalogue = reports::loaded(alloc, folder, &inputs)?;
     if form == Form::Programs {
-        let lacks = messages::lacks_of(alloc, folder, &inputs)?;
+        let lacks = messages::lacks_of(alloc, folder, &catalogue, &inputs)?;
         if !lacks.is_empty() {
             return Ok(lacks);
         }
     }
-    let why = explanation(alloc, folder, &inputs, derivation, text, all)?;
+    let why = match reports::refusal_of(alloc, folder, &catalogue, &inputs, derivation, all)? {
+        Some(told) => told,
+        None => String::from_str(alloc, text)?,
+    };
     match form {
         Form::People => Ok(why),
         Form::Programs => Ok(messages::refusal(alloc, why.as_str())?),
     }
 }
 
-/// Why there is no lock, for people.
-fn explanation<F: Folder>(
+/// A sentence for each package of the old lock whose version the index can't give, and that has another compatible one
+/// in a new lock.
+pub(crate) fn lost_in<F: Folder>(
     alloc: Global,
     folder: &mut F,
-    inputs: &Inputs,
-    derivation: &Derivation,
-    text: &str,
-    all: bool,
-) -> Result<String, Fault> {
-    match reports::refusal_of(alloc, folder, inputs, derivation, all)? {
-        Some(told) => Ok(told),
-        None => Ok(String::from_str(alloc, text)?),
+    bytes: &Bytes,
+    new: &[u8],
+) -> Result<Vec<String>, Fault> {
+    let inputs = inputs_in(alloc, bytes)?;
+    let new = lockfile::read(alloc, new)?;
+    match &inputs.lock {
+        Some(old) => Ok(reports::lost_between(alloc, folder, old, &new)?),
+        None => Ok(Vec::new(alloc)),
     }
 }

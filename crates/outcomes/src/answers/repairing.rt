@@ -31,11 +31,15 @@ pub(crate) fn readable_rest(alloc: Global, bytes: &Bytes) -> Result<Option<Repai
     } else {
         Some(lock.into_bytes())
     };
-    let manifest = bytes.manifest.clone()?;
+    let bytes = Bytes {
+        manifest: bytes.manifest.clone()?,
+        lock,
+        source: bytes.source.clone()?,
+    };
     Ok(Some(Repaired {
         fault,
         packages,
-        bytes: Bytes { manifest, lock },
+        bytes,
     }))
 }
 

@@ -1,0 +1,202 @@
+//! What `update --precise` ends with.
+//!
+//! The package gets the version, or there is no lock: the packages whose lists have it stay as they are locked, and so
+//! do those of the same names. So the answer is that of `resolve` over a folder in which these have no other versions.
+
+use crate::answers::{NewLock, found_in, inputs_in, new_lock, refusal_in, rest_without};
+use crate::outcome::Outcome;
+use crate::pinning::Pins;
+use crate::resolving::{Wish, locked, new_lock_of, no_lock, preference};
+use crate::said::Said;
+use crate::why::{NoWay, Question, no_way};
+use derivations::Derivation;
+use features::PackageName;
+use index_reader::Folder;
+use lockfile::LockContent;
+use project_files::{Bytes, Paths};
+use reports::{Meant, Wanted};
+use resolver::{Answer, Fault};
+use semver::Version;
+use std::alloc::{AllocError, Global};
+use std::collections::BTreeSet;
+
+/// A package of a lock that is to have another version.
+#[derive(Drop)]
+pub struct Precise {
+    pub name: PackageName,
+    pub version: Version,
+    /// The files without what the lock says of it.
+    rest: Bytes,
+}
+
+/// A package that is to have a version, and what has to stay; or what the command ends with where no package is meant.
+pub fn precise_in(
+    alloc: Global,
+    paths: &Paths<'_>,
+    bytes: &Bytes,
+    words: &str,
+    question: &Question,
+    version: Version,
+    said: &mut Said,
+) -> Result<Result<(Precise, Pins), Outcome>, Fault> {
+    let inputs = inputs_in(alloc, bytes)?;
+    let why = match (found_in(alloc, &inputs, question)?, &inputs.lock) {
+        (Meant::One(wanted), Some(lock)) => {
+            let pins = pins_of(alloc, lock, &wanted, &version)?;
+            let rest = rest_without(alloc, bytes, &wanted)?;
+            let name = wanted.name;
+            let precise = Precise {
+                name,
+                version,
+                rest,
+            };
+            return Ok(Ok((precise, pins)));
+        }
+        (Meant::Several, _) => NoWay::Several,
+        _ => NoWay::Absent,
+    };
+    Ok(Err(no_way(alloc, paths, words, why, said)?))
+}
+
+/// The version for the package, and for what lists it, and for all others of these names, their own.
+fn pins_of(
+    alloc: Global,
+    lock: &LockContent,
+    wanted: &Wanted,
+    version: &Version,
+) -> Result<Pins, AllocError> {
+    let packages = lock.packages();
+    let place = packages.iter().position(|package| wanted.is(package));
+    let mut names = BTreeSet::new(alloc);
+    names.insert(wanted.name.clone()?)?;
+    for package in packages.iter() {
+        if package.source().is_some() && package.list.iter().any(|listed| Some(*listed) == place) {
+            names.insert(package.name.clone()?)?;
+        }
+    }
+    let mut pins = Pins::none(alloc);
+    pins.add(&wanted.name, version)?;
+    for package in packages.iter() {
+        if names.contains(&package.name) && !wanted.is(package) {
+            pins.add(&package.name, &package.version)?;
+        }
+    }
+    Ok(pins)
+}
+
+/// What changes in the lock where a package has a version, over a folder where it has no other one.
+pub fn precise_told<F: Folder, P: Folder>(
+    alloc: Global,
+    folder: &mut F,
+    pinned: &mut P,
+    paths: &Paths<'_>,
+    bytes: &Bytes,
+    precise: &Precise,
+    wish: Wish,
+    said: &mut Said,
+) -> Result<Outcome, Fault> {
+    match reports::lost_version(alloc, folder, &precise.name, &precise.version)? {
+        Some(why) => Ok(no_version(alloc, precise, why.as_str(), said)?),
+        None => pinned_told(alloc, folder, pinned, paths, bytes, precise, wish, said),
+    }
+}
+
+/// The same where the index has the version.
+fn pinned_told<F: Folder, P: Folder>(
+    alloc: Global,
+    folder: &mut F,
+    pinned: &mut P,
+    paths: &Paths<'_>,
+    bytes: &Bytes,
+    precise: &Precise,
+    wish: Wish,
+    said: &mut Said,
+) -> Result<Outcome, Fault> {
+    let prefer = preference(alloc, bytes, wish)?;
+    let answer = new_lock(alloc, pinned, &precise.rest, prefer)?;
+    match &answer {
+        Answer::Lock {
+            bytes: new,
+            kept,
+            skips,
+        } => {
+            let lock = new_lock_of(bytes, new, *kept, prefer, skips.len());
+            taken(alloc, folder, paths, bytes, precise, lock, wish, said)
+        }
+        Answer::Unsolvable {
+            derivation,
+            text,
+            ..
+        } => {
+            let text = text.as_str();
+            refused(alloc, pinned, paths, precise, derivation, text, wish, said)
+        }
+    }
+}
+
+/// What changes where a lock has the version, if it has.
+fn taken<F: Folder>(
+    alloc: Global,
+    folder: &mut F,
+    paths: &Paths<'_>,
+    bytes: &Bytes,
+    precise: &Precise,
+    lock: NewLock<'_>,
+    wish: Wish,
+    said: &mut Said,
+) -> Result<Outcome, Fault> {
+    if has_one(alloc, lock.bytes, precise)? {
+        locked(alloc, folder, paths, bytes, &precise.rest, lock, wish, said)
+    } else {
+        Ok(unneeded(alloc, precise, said)?)
+    }
+}
+
+/// That the index doesn't have the version.
+fn no_version(
+    alloc: Global,
+    precise: &Precise,
+    why: &str,
+    said: &mut Said,
+) -> Result<Outcome, AllocError> {
+    let (name, version) = (&precise.name, &precise.version);
+    let text = format!(in alloc; "{name} can't be {version}: {why}")?;
+    said.error("no-version", text.as_str())?;
+    Ok(Outcome::no())
+}
+
+/// That no package of a lock leads to the version.
+fn unneeded(alloc: Global, precise: &Precise, said: &mut Said) -> Result<Outcome, AllocError> {
+    let (name, version) = (&precise.name, &precise.version);
+    let text = format!(in alloc; "nothing in the lock would need {name} {version}")?;
+    said.error("unneeded", text.as_str())?;
+    Ok(Outcome::no())
+}
+
+/// Why there is no lock where the package has the version.
+fn refused<P: Folder>(
+    alloc: Global,
+    pinned: &mut P,
+    paths: &Paths<'_>,
+    precise: &Precise,
+    derivation: &Derivation,
+    text: &str,
+    wish: Wish,
+    said: &mut Said,
+) -> Result<Outcome, Fault> {
+    let (name, version) = (&precise.name, &precise.version);
+    let rest = &precise.rest;
+    let form = said.form();
+    let why = refusal_in(alloc, pinned, rest, derivation, text, form, wish.all)?;
+    let there = format!(in alloc; " where {name} is {version}")?;
+    Ok(no_lock(alloc, paths, there.as_str(), why.as_str(), said)?)
+}
+
+/// Whether a lock has the package at its version.
+fn has_one(alloc: Global, lock: &[u8], precise: &Precise) -> Result<bool, Fault> {
+    let content = lockfile::read(alloc, lock)?;
+    let mut packages = content.packages().iter();
+    Ok(packages.any(|package| {
+        package.name == precise.name && package.version == precise.version
+    }))
+}
