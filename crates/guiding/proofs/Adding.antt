@@ -23,7 +23,7 @@ use Rattle.refutations.specs.Causes.{Cause, kind_of, terms_of_cause}
 use Rattle.refutations.proofs.CauseLaws.{cause_instance}
 use Rattle.numbering.specs.Assignments.{state_at}
 use Rattle.numbering.specs.Numberings.{Numbering, Says, members_at}
-use Rattle.numbering.specs.Pairs.{AreGiven, Given, IsGivenAt}
+use Rattle.numbering.specs.Pairs.{AreGiven, AreOfPair, Given, IsGivenAt, Pair}
 use Rattle.numbering.proofs.Needing.{still_at}
 use Rattle.model.proofs.Lists.{in_cons, in_none, in_first, in_rest}
 use Rattle.searching.specs.Searching.{AreMore, HasSpaces, IsOfNew, IsSeen}
@@ -31,15 +31,17 @@ use Rattle.searching.specs.Turning.{IsAdding}
 use Rattle.searching.specs.Following as following
 use Rattle.searching.proofs.Guides.{lone_one, spaces_wider}
 use Rattle.searching.proofs.Seen.{seen_wider}
-use Rattle.guiding.specs.Guides.{AreStored, CanAsk, EncodedView, GoesOn, IsAsking, IsOfInstance, IsPut, as_entry}
+use Rattle.guiding.specs.Guides.{AreAll, AreFirst, AreStored, CanAsk, EncodedView, GoesOn, IsAsking, IsOfInstance}
+use Rattle.guiding.specs.Guides.{IsPut, as_entry}
 use Rattle.guiding.specs.Guides.{asked_at, asked_of, on_trail, late_with, left_with, with_given}
 use Rattle.vertices.specs.Kinds.{kind_number}
-use Rattle.guiding.specs.Remaining.{spaces_of}
+use Rattle.guiding.specs.Remaining.{open_of, spaces_of}
 use Rattle.guiding.proofs.FirstTerms.{first_only}
 use Rattle.guiding.specs.Going.{added_grown, added_on, says_on}
 use Rattle.guiding.proofs.Marks.{lengths_at, marked_either, marked_lengths, marked_more, marked_now}
+use Rattle.guiding.proofs.Marks.{wide_either, wide_has, wide_lengths}
 use Rattle.guiding.proofs.Numbers.{asked_is, asked_stays, on_trail_at, on_trail_most, late_comes, there_at}
-use Rattle.guiding.proofs.Remaining.{open_lt}
+use Rattle.guiding.proofs.Remaining.{open_le, open_lt}
 
 -- ---- what is given, at its places
 
@@ -114,7 +116,19 @@ said_long q vs asked wide spaces whole spaced x ts says u z e = by (slice_get vs
         (length (space q y)) (sym (says.each u y f) ∙ e) (λ m h. mapped_long q y (states_at ts y) m h) in
         long ∙ ap (λ w. length (space q w)) (sym same) ∙ sym r.2 ∙ sym (lengths_at asked u) ∙ sym (spaced.each u)
 
--- what comes where a pair is asked for that may be
+pub of_all : (q : Problem) (vs : Numbering) (p : Pair) (xs : List Given) → IsGivenAt q vs p xs → AreOfPair q vs p xs
+of_all q vs p xs is = record { causes = is.causes; are = λ c h. (is.are.listed c).0 h; given = is.given }
+
+-- whichever instances come, they are of the pair
+pub given_how : {v i : ℕ} {old new : EncodedView} {t wide : TrailView} {es more : List EntryView}
+    (a : IsAsking v i old new t wide es more) (w : Vertex) → slice_get old.vertices v ≡ Some w
+    → AreOfPair old.problem new.vertices (w, state_at old.problem w i) a.given
+given_how {i = i} {old = old} {new = new} a w at = elim a.how [
+  | inl all ↦ of_all old.problem new.vertices (w, state_at old.problem w i) a.given (all.is w at)
+  | inr first ↦ first.is w at
+]
+
+-- what comes where a pair is asked for, or begun with, that may be
 pub record IsAsked (v i : ℕ) (old new : EncodedView) (t wide : TrailView) (es more : List EntryView) : Type 0 where
   pub asking : IsAsking v i old new t wide es more
   pub spaced : HasSpaces (map length old.asked) t
@@ -151,8 +165,8 @@ module _ {v i : ℕ} {old new : EncodedView} {t wide : TrailView} {es more : Lis
       × (length (set_of old.asked v) ≡ length (space old.problem w))
   at_v = on_trail_at old.problem old.vertices old.asked v a.spaces inside
 
-  is_given : IsGivenAt old.problem new.vertices (at_v.0, state_at old.problem at_v.0 i) a.given
-  is_given = a.is at_v.0 at_v.1
+  is_given : AreOfPair old.problem new.vertices (at_v.0, state_at old.problem at_v.0 i) a.given
+  is_given = given_how a at_v.0 at_v.1
 
   now_at : slice_get new.vertices v ≡ Some at_v.0
   now_at = still_at old.vertices new.vertices v at_v.0 a.grown at_v.1
@@ -161,15 +175,18 @@ module _ {v i : ℕ} {old new : EncodedView} {t wide : TrailView} {es more : Lis
   fits = subst (λ n. i < n) at_v.2 lt
 
   lengths : map length new.asked ≡ map length old.asked ++ a.came
-  lengths = ap (map length) a.marks ∙ marked_lengths old.asked a.came v i inside lt
+  lengths = elim a.how [
+    | inl all ↦ ap (map length) all.marks ∙ marked_lengths old.asked a.came v i inside lt
+    | inr first ↦ ap (map length) first.marks ∙ wide_lengths old.asked a.came
+  ]
 
   stays : (u j : ℕ) → has (set_of old.asked u) j ≡ true → has (set_of new.asked u) j ≡ true
-  stays u j h = subst
-      (λ (l : List Members). has (set_of l u) j ≡ true) (sym a.marks) (marked_more old.asked a.came v i inside lt u j h)
-
-  now : has (set_of new.asked v) i ≡ true
-  now =
-      subst (λ (l : List Members). has (set_of l v) i ≡ true) (sym a.marks) (marked_now old.asked a.came v i inside lt)
+  stays u j h = elim a.how [
+    | inl all ↦ subst (λ (l : List Members). has (set_of l u) j ≡ true) (sym all.marks)
+        (marked_more old.asked a.came v i inside lt u j h)
+    | inr first ↦
+        subst (λ (l : List Members). has (set_of l u) j ≡ true) (sym first.marks) (wide_has old.asked a.came u j h)
+  ]
 
   or_more : (b c d : Bool) → (c ≡ true → d ≡ true) → (b || c) ≡ true → (b || d) ≡ true
   or_more true c d f e = refl
@@ -196,7 +213,7 @@ module _ {v i : ℕ} {old new : EncodedView} {t wide : TrailView} {es more : Lis
       → IsOfNew (length t.sets) (asked_of old.asked) (entry (map as_entry a.given) k)
   new_one k within =
       let g = given_at old.problem new.vertices is_given.causes a.given k is_given.given within in
-      let is = (is_given.are.listed g.cause).0 g.listed in
+      let is = is_given.are g.cause g.listed in
       let first = first_only old.problem new.vertices
       (entry (map as_entry a.given) k).terms g.cause v i at_v.0 a.catalogue is.0 g.says now_at some fits is.1 in
       record {
@@ -227,16 +244,36 @@ module _ {v i : ℕ} {old new : EncodedView} {t wide : TrailView} {es more : Lis
         entries ∙ get_or-append_right es (map as_entry a.given) (length es) id no_entry refl ge) e)
   ]
 
-  fewer : left_with new < left_with old
-  fewer = subst
-      (λ p. Rattle.guiding.specs.Remaining.open_of p (asked_at new.vertices new.asked) < left_with old) (sym a.same)
-      (open_lt old.problem (asked_at old.vertices old.asked) (asked_at new.vertices new.asked) at_v.0 i
-      (asked_stays old.problem old.vertices new.vertices old.asked new.asked a.grown a.numbering stays)
-      (there_at old.problem new.vertices v at_v.0 a.numbering now_at) fits
-      (was_at ∙ fresh) (asked_is old.problem new.vertices new.asked at_v.0 v i a.numbering now_at ∙ now))
+  -- fewer pairs are open where one is asked for, and no more where one is begun with
+  more_asked : (w : Vertex) (j : ℕ) → asked_at old.vertices old.asked w j ≡ true
+      → asked_at new.vertices new.asked w j ≡ true
+  more_asked = asked_stays old.problem old.vertices new.vertices old.asked new.asked a.grown a.numbering stays
+
+  abbrev open_before : ℕ
+  open_before = open_of old.problem (asked_at old.vertices old.asked)
+
+  fewer_open : AreAll v i old new a.came a.given → open_of old.problem (asked_at new.vertices new.asked) < open_before
+  fewer_open all =
+      open_lt old.problem (asked_at old.vertices old.asked) (asked_at new.vertices new.asked) at_v.0 i more_asked
+      (there_at old.problem new.vertices v at_v.0 a.numbering now_at) fits (was_at ∙ fresh)
+      (asked_is old.problem new.vertices new.asked at_v.0 v i a.numbering now_at ∙ now)
     where
       was_at : asked_at old.vertices old.asked at_v.0 i ≡ has (set_of old.asked v) i
       was_at = asked_is old.problem old.vertices old.asked at_v.0 v i a.was_numbering at_v.1
+
+      now : has (set_of new.asked v) i ≡ true
+      now = subst (λ (l : List Members). has (set_of l v) i ≡ true) (sym all.marks)
+          (marked_now old.asked a.came v i inside lt)
+
+  no_more_open : open_of old.problem (asked_at new.vertices new.asked) ≤ open_before
+  no_more_open = open_le old.problem (asked_at old.vertices old.asked) (asked_at new.vertices new.asked) more_asked
+
+  fewer : left_with new < left_with old
+  fewer = subst (λ p. open_of p (asked_at new.vertices new.asked) + new.to_begin < left_with old) (sym a.same)
+      (elim a.how [
+        | inl all ↦ let lt = fewer_open all in omega (arith, lt, all.begins)
+        | inr first ↦ let le = no_more_open in omega (arith, le, first.begins)
+      ])
 
   pub asked_adding : IsAdding (asked_of old.asked) (asked_of new.asked) (left_with old) (left_with new) (late_with old)
       (late_with new) t wide es more true
@@ -294,7 +331,7 @@ module _ {v i : ℕ} {old new : EncodedView} {t wide : TrailView} {es more : Lis
             ∙ get_or-append_right es (map as_entry a.given) (length es) id no_entry refl ge in
             let g = given_at old.problem new.vertices is_given.causes a.given (id - length es) is_given.given
             (omega (arith, within, ge, ap length entries, length-append es (map as_entry a.given))) in
-            let is = (is_given.are.listed g.cause).0 g.listed in
+            let is = is_given.are g.cause g.listed in
             subst (IsOfInstance old.problem new.vertices) (sym same)
             (record {
               kind = kind_of g.cause;
@@ -306,45 +343,64 @@ module _ {v i : ℕ} {old new : EncodedView} {t wide : TrailView} {es more : Lis
             })
       ])
 
+  -- each instance of an earlier pair stays
+  kept : AreStored old.problem old.vertices old.asked es → (n j : ℕ) (w : Vertex) → n < length old.asked
+      → has (set_of old.asked n) j ≡ true → slice_get new.vertices n ≡ Some w
+      → IsPut old.problem new.vertices (es ++ map as_entry a.given) (w, state_at old.problem w j)
+  kept was n j w low h at =
+      let o = on_trail_at old.problem old.vertices old.asked n a.spaces low in
+      let same : o.0 ≡ w = same_Some o.0 w (sym (still_at old.vertices new.vertices n o.0 a.grown o.1) ∙ at) in
+      subst (λ x. IsPut old.problem new.vertices (es ++ map as_entry a.given) (x, state_at old.problem x j)) same
+      (added_on old.problem new.vertices es (map as_entry a.given) _ (added_grown old.problem old.vertices
+      new.vertices es _ a.grown a.numbering (was.pairs n j o.0 h o.1)))
+
+  -- and those of the pair that is asked for come
+  here : AreAll v i old new a.came a.given
+      → IsPut old.problem new.vertices (es ++ map as_entry a.given) (at_v.0, state_at old.problem at_v.0 i)
+  here all c is first =
+      let given = all.is at_v.0 at_v.1 in
+      let r = given_of old.problem new.vertices given.causes a.given c given.given
+      ((given.are.listed c).1 (is, first)) in
+      let k = r.1 in
+      let same : entry (es ++ map as_entry a.given) (length es + r.0) ≡ entry (map as_entry a.given) r.0 =
+      get_or-append_right es (map as_entry a.given) (length es) (length es + r.0) no_entry refl (omega arith)
+      ∙ ap (entry (map as_entry a.given)) (omega arith) in (
+        length es + r.0,
+        omega (arith, k, length-append es (map as_entry a.given)),
+        subst (λ (e : EntryView). IsAxiom e.origin) (sym same) r.2,
+        subst (λ (e : EntryView).
+            Says old.problem new.vertices e.terms (terms_of_cause old.problem c)) (sym same) r.3,
+      )
+
+  pairs_all : AreAll v i old new a.came a.given → AreStored old.problem old.vertices old.asked es → (n j : ℕ)
+      (w : Vertex) → has (set_of new.asked n) j ≡ true → slice_get new.vertices n ≡ Some w
+      → IsPut old.problem new.vertices (es ++ map as_entry a.given) (w, state_at old.problem w j)
+  pairs_all all was n j w h at = elim (marked_either old.asked a.came v i inside lt n j
+      (subst (λ (l : List Members). has (set_of l n) j ≡ true) all.marks h)) [
+        | inl e ↦
+            let same : at_v.0 ≡ w = same_Some at_v.0 w (sym now_at ∙ ap (slice_get new.vertices) (sym e.0) ∙ at) in
+            subst (λ k.
+            IsPut old.problem new.vertices (es ++ map as_entry a.given) (w, state_at old.problem w k)) (sym e.1)
+            (subst (λ x. IsPut old.problem new.vertices (es ++ map as_entry a.given)
+            (x, state_at old.problem x i)) same (here all))
+        | inr r ↦ kept was n j w r.0 r.1 at
+      ]
+
+  pairs_first : AreFirst v i old new a.came a.given → AreStored old.problem old.vertices old.asked es → (n j : ℕ)
+      (w : Vertex) → has (set_of new.asked n) j ≡ true → slice_get new.vertices n ≡ Some w
+      → IsPut old.problem new.vertices (es ++ map as_entry a.given) (w, state_at old.problem w j)
+  pairs_first first was n j w h at =
+      let r = wide_either old.asked a.came n j
+      (subst (λ (l : List Members). has (set_of l n) j ≡ true) first.marks h) in
+      kept was n j w r.0 r.1 at
+
   pub asked_stored : AreStored old.problem old.vertices old.asked es → AreStored new.problem new.vertices new.asked more
   asked_stored was = subst (λ p. AreStored p new.vertices new.asked more) (sym a.same)
       (subst (AreStored old.problem new.vertices new.asked) (sym entries) (record {
         root_is = added_on old.problem new.vertices es (map as_entry a.given) _
             (added_grown old.problem old.vertices new.vertices es _ a.grown a.numbering was.root_is);
-        pairs = pairs;
+        pairs = elim a.how [
+          | inl all ↦ pairs_all all was
+          | inr first ↦ pairs_first first was
+        ];
       }))
-    where
-      here : IsPut old.problem new.vertices (es ++ map as_entry a.given) (at_v.0, state_at old.problem at_v.0 i)
-      here c is first =
-          let r = given_of old.problem new.vertices is_given.causes a.given c is_given.given
-          ((is_given.are.listed c).1 (is, first)) in
-          let k = r.1 in
-          let same : entry (es ++ map as_entry a.given) (length es + r.0) ≡ entry (map as_entry a.given) r.0 =
-          get_or-append_right es (map as_entry a.given) (length es) (length es + r.0) no_entry refl (omega arith)
-          ∙ ap (entry (map as_entry a.given)) (omega arith) in (
-            length es + r.0,
-            omega (arith, k, length-append es (map as_entry a.given)),
-            subst (λ (e : EntryView). IsAxiom e.origin) (sym same) r.2,
-            subst (λ (e : EntryView).
-                Says old.problem new.vertices e.terms (terms_of_cause old.problem c)) (sym same) r.3,
-          )
-
-      pairs : (n j : ℕ) (w : Vertex) → has (set_of new.asked n) j ≡ true → slice_get new.vertices n ≡ Some w
-          → IsPut old.problem new.vertices (es ++ map as_entry a.given) (w, state_at old.problem w j)
-      pairs n j w h at = elim (marked_either old.asked a.came v i inside lt n j
-          (subst (λ (l : List Members). has (set_of l n) j ≡ true) a.marks h)) [
-            | inl e ↦
-                let same : at_v.0 ≡ w = same_Some at_v.0 w (sym now_at ∙ ap (slice_get new.vertices) (sym e.0) ∙ at) in
-                subst (λ k.
-                IsPut old.problem new.vertices (es ++ map as_entry a.given) (w, state_at old.problem w k)) (sym e.1)
-                (subst (λ x. IsPut old.problem new.vertices (es ++ map as_entry a.given)
-                (x, state_at old.problem x i)) same here)
-            | inr r ↦
-                let o = on_trail_at old.problem old.vertices old.asked n a.spaces r.0 in
-                let same : o.0 ≡ w =
-                same_Some o.0 w (sym (still_at old.vertices new.vertices n o.0 a.grown o.1) ∙ at) in
-                subst (λ x.
-                IsPut old.problem new.vertices (es ++ map as_entry a.given) (x, state_at old.problem x j)) same
-                (added_on old.problem new.vertices es (map as_entry a.given) _ (added_grown old.problem old.vertices
-                new.vertices es _ a.grown a.numbering (was.pairs n j o.0 r.1 o.1)))
-          ]

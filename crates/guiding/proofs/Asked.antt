@@ -1,5 +1,5 @@
 -- A guide as its fields are, before and after it asks for a pair.
-use Rattle.std.proofs.Common.{◌≡◌, ℕ, ◌<◌, ◌≤◌, true, List, length, map, take, Result, Ok}
+use Rattle.std.proofs.Common.{◌≡◌, ◌⊎◌, inl, inr, ℕ, suc, ◌<◌, ◌≤◌, true, List, length, map, take, Result, Ok}
 use Rattle.std.proofs.Common.{Err, Option, Some, slice_get, refl, sym, ap, ◌∙◌, subst, arith}
 use Rattle.std.specs.Prelude.{OnErr, OnOk}
 use Rattle.std.proofs.lemmas.List.{length-map}
@@ -15,12 +15,18 @@ use Rattle.model.specs.WellFormed.{IsCatalogue}
 use Rattle.numbering.specs.Assignments.{state_at}
 use Rattle.numbering.specs.KnownProblem.{KnowsDefault, problem}
 use Rattle.numbering.specs.Numberings.{IsGrown, IsNumbering, Numbering}
-use Rattle.numbering.specs.Pairs.{Given, IsGivenAt}
+use Rattle.numbering.specs.CausesAt.{first_causes}
+use Rattle.numbering.specs.Pairs.{AreOfPair, Given, IsFirstGiven, IsGivenAt}
+use Rattle.numbering.proofs.AddLaws.{state_in}
+use Rattle.numbering.proofs.CausesLaws.{first_there}
+use Rattle.model.specs.Axioms.{IsVertex}
+use Rattle.model.proofs.Members.{element}
 use Rattle.numbering.specs.declared.known_problem.KnownProblem.{KnownProblem}
 use Rattle.searching.specs.Searching.{HasSpaces, IsOnly, IsSeen, Pairs}
 use Rattle.searching.specs.Searching as searching
 use Rattle.searching.proofs.Seen.{seen_all}
-use Rattle.guiding.specs.Guides.{EncodedView, IsAsking, IsCome, IsEncoding, encoded_view, on_trail, marked, with_given}
+use Rattle.guiding.specs.Guides.{AreAll, AreFirst, EncodedView, IsAsking, IsCome, IsEncoding, encoded_view, on_trail}
+use Rattle.guiding.specs.Guides.{marked, with_given}
 use Rattle.guiding.specs.Remaining.{spaces_of}
 use Rattle.guiding.proofs.Marks.{lengths_at, mark_lengths}
 use Rattle.guiding.proofs.Numbers.{on_trail_at}
@@ -57,47 +63,74 @@ encoding_marked (Err e) i vs asked more v s is same was = encoding_same i vs ask
 
 -- a state of a vertex
 pub state_below : (i : KnownProblem) (vs : Numbering) (asked : List Members) (old : EncodedView) (seen : ℕ)
-    (follows : Option Content) (v s : ℕ) → IsEncoding i vs asked → encoded_view (problem i) vs asked seen follows ≡ old
+    (follows : Option Content) (n : ℕ) (v s : ℕ) → IsEncoding i vs asked
+    → encoded_view (problem i) vs asked seen follows n ≡ old
     → v < length old.asked → s < length (set_of old.asked v)
     → (w : Vertex) → slice_get vs v ≡ Some w → s < length (space (problem i) w)
-state_below i vs asked old seen follows v s is view low lt w at =
+state_below i vs asked old seen follows n v s is view low lt w at =
     let low : v < length asked = subst (λ (o : EncodedView). v < length o.asked) (sym view) low in
     let lt : s < length (set_of asked v) = subst (λ (o : EncodedView). s < length (set_of o.asked v)) (sym view) lt in
     let r = on_trail_at (problem i) vs asked v is.spaces low in
     subst (λ n. s < n) (r.2 ∙ ap (λ x. length (space (problem i) x)) (same_Some r.0 w (sym r.1 ∙ at))) lt
 
-pub asking_by : (i : KnownProblem) (vs new : Numbering) (asked mid last : List Members) (seen : ℕ)
-    (follows : Option Content)
-    (v s : ℕ) (old : EncodedView) (t wide : TrailView) (es more : List EntryView) (given : List Given)
-    → encoded_view (problem i) vs asked seen follows ≡ old → IsEncoding i vs asked → IsGrown vs new
-    → IsEncoding i new mid → IsCome asked mid t wide → length new ≤ length mid → IsTrail es wide
-    → ((w : Vertex) → slice_get vs v ≡ Some w → IsGivenAt (problem i) new (w, state_at (problem i) w s) given)
-    → more ≡ with_given es given → last ≡ marked mid v s
-    → IsAsking v s old (encoded_view (problem i) new last seen follows) t wide es more
-asking_by i vs new asked mid last seen follows v s old t wide es more given view was grown now come
-    whole trail is stored marks =
-    let lengths : map length last ≡ map length mid = ap (map length) marks ∙ mark_lengths mid v s in
-    let then : IsEncoding i new last = encoding_same i new mid last lengths now in
-    subst (λ (o : EncodedView).
-    IsAsking v s o (encoded_view (problem i) new last seen follows) t wide es more) view (record {
-      same = refl;
-      seen_is = refl;
-      follows_is = refl;
-      catalogue = was.catalogue;
-      grown = grown;
-      was_numbering = was.numbering;
-      numbering = now.numbering;
-      spaces = was.spaces;
-      whole = omega (arith, whole, ap length lengths, length-map last length, length-map mid length);
-      spaced = then.spaces;
-      came = come.came;
-      marks = marks ∙ ap (λ l. marked l v s) come.sets;
-      wider = come.wider;
-      trail = trail;
-      given = given;
-      is = is;
-      stored = stored;
-    })
+-- the first instances of a pair are of it
+pub first_of : (i : KnownProblem) (vs new : Numbering) (v s : ℕ) (asked : List Members) (given : List Given)
+    → IsEncoding i vs asked → ((w : Vertex) → slice_get vs v ≡ Some w → s < length (space (problem i) w))
+    → ((w : Vertex) → slice_get vs v ≡ Some w → IsFirstGiven (problem i) new (w, state_at (problem i) w s) given)
+    → (w : Vertex) → slice_get vs v ≡ Some w → AreOfPair (problem i) new (w, state_at (problem i) w s) given
+first_of i vs new v s asked given is below first w at = record {
+  causes = first_causes (problem i) w (state_at (problem i) w s);
+  are = λ c h. first_there (problem i) w (state_at (problem i) w s)
+      (element (λ v. IsVertex (problem i) v) vs v w is.numbering.there at)
+      (state_in (problem i) w s (state_at (problem i) w s) (below w at) refl) c h;
+  given = first w at;
+}
+
+-- what all of the instances, or some, are given in
+module _ (i : KnownProblem) (vs new : Numbering) (asked mid last : List Members) (seen : ℕ) (follows : Option Content)
+    (n m v s : ℕ) (old : EncodedView) (t wide : TrailView) (es more : List EntryView) (given : List Given)
+    (view : encoded_view (problem i) vs asked seen follows n ≡ old) (was : IsEncoding i vs asked)
+    (grown : IsGrown vs new) (now : IsEncoding i new mid) (come : IsCome asked mid t wide)
+    (whole : length new ≤ length mid) (trail : IsTrail es wide) (stored : more ≡ with_given es given)
+    (lengths : map length last ≡ map length mid) where
+  abbrev before : EncodedView
+  before = encoded_view (problem i) vs asked seen follows n
+
+  abbrev after : EncodedView
+  after = encoded_view (problem i) new last seen follows m
+
+  by_how : AreAll v s before after come.came given ⊎ AreFirst v s before after come.came given
+      → IsAsking v s old after t wide es more
+  by_how how = subst (λ (o : EncodedView). IsAsking v s o after t wide es more) view (record {
+    same = refl;
+    seen_is = refl;
+    follows_is = refl;
+    catalogue = was.catalogue;
+    grown = grown;
+    was_numbering = was.numbering;
+    numbering = now.numbering;
+    spaces = was.spaces;
+    whole = omega (arith, whole, ap length lengths, length-map last length, length-map mid length);
+    spaced = (encoding_same i new mid last lengths now).spaces;
+    came = come.came;
+    wider = come.wider;
+    trail = trail;
+    given = given;
+    how = how;
+    stored = stored;
+  })
+
+  -- all of them
+  pub asking_by : ((w : Vertex) → slice_get vs v ≡ Some w → IsGivenAt (problem i) new (w, state_at (problem i) w s) given)
+      → last ≡ marked mid v s → m ≡ n → IsAsking v s old after t wide es more
+  asking_by is marks e =
+      by_how (inl (record { marks = marks ∙ ap (λ l. marked l v s) come.sets; is = is; begins = e }))
+
+  -- the first of them
+  pub beginning_by : ((w : Vertex) → slice_get vs v ≡ Some w
+      → AreOfPair (problem i) new (w, state_at (problem i) w s) given) → last ≡ mid → n ≡ suc m
+      → IsAsking v s old after t wide es more
+  beginning_by is same e = by_how (inr (record { marks = same ∙ come.sets; is = is; begins = e }))
 
 -- what is left to a vertex is a state of it
 pub left_below : (asked : List Members) (t : TrailView) (v s : ℕ) → HasSpaces (map length asked) t

@@ -25,7 +25,7 @@ use Rattle.refutations.specs.Causes.{kind_of, terms_of_cause}
 use Rattle.refutations.proofs.CauseLaws.{cause_instance}
 use Rattle.numbering.specs.Assignments.{IsOf, state_at}
 use Rattle.numbering.specs.Numberings.{IsGrown, Numbering}
-use Rattle.numbering.specs.Pairs.{Given, IsGivenAt, Pair}
+use Rattle.numbering.specs.Pairs.{AreOfPair, Given, Pair}
 use Rattle.numbering.proofs.Distinct.{states_once}
 use Rattle.numbering.proofs.Needing.{still_at}
 use Rattle.numbering.proofs.Sound.{breaks_none, has_assignment}
@@ -36,7 +36,7 @@ use Rattle.searching.specs.declared.turns.Answer.TheVariants.{Selection, Unsolva
 use Rattle.guiding.specs.Guides.{CanFollow, EncodedView, Follows, GoesOn, HasBegun, HasFollowed, IsAsking, IsFollowed}
 use Rattle.guiding.specs.Guides.{as_entry, on_trail}
 use Rattle.guiding.specs.Remaining.{spaces_of}
-use Rattle.guiding.proofs.Adding.{IsAsked, asked_spaces, given_at, with_given_is}
+use Rattle.guiding.proofs.Adding.{IsAsked, asked_spaces, given_at, given_how, with_given_is}
 use Rattle.guiding.proofs.FirstTerms.{space_starts, state_is}
 use Rattle.guiding.proofs.Marks.{lengths_at}
 use Rattle.guiding.proofs.Numbers.{on_trail_at}
@@ -81,7 +81,7 @@ module _ (q : Problem) (vs : Numbering) (content : Content) (x : Assignment) (of
 
   -- instances that come aren't broken
   pub more_unbroken : (p : Pair) (es more : List EntryView) (given : List Given) → IsCatalogue q
-      → IsValidSelection q content → IsGivenAt q vs p given → more ≡ es ++ map as_entry given
+      → IsValidSelection q content → AreOfPair q vs p given → more ≡ es ++ map as_entry given
       → BreaksNone x es → BreaksNone x more
   more_unbroken p es more given known valid is entries none id within broken = elim (cases_lt id (length es)) [
     | inl less ↦
@@ -94,7 +94,7 @@ module _ (q : Problem) (vs : Numbering) (content : Content) (x : Assignment) (of
         ∙ get_or-append_right es (map as_entry given) (length es) id no_entry refl ge in
         let g = given_at q vs is.causes given (id - length es) is.given
         (omega (arith, within, ge, ap length entries, length-append es (map as_entry given))) in
-        let there = (is.are.listed g.cause).0 g.listed in
+        let there = is.are g.cause g.listed in
         breaks_none q vs content x of (kind_of g.cause) (terms_of_cause q g.cause)
         (entry (map as_entry given) (id - length es)).terms known valid (cause_instance q g.cause there.0) g.says
         (subst (λ (e : EntryView). Breaks x (states_at e.terms)) same broken)
@@ -117,7 +117,7 @@ module _ {v i : ℕ} {old new : EncodedView} {t wide : TrailView} {es more : Lis
         old.problem old.vertices new.vertices f.0 x a.grown (subst (λ q. IsOf q new.vertices f.0 x) a.same f.3),
   )
 
-  left_on : (p : Pair) → IsGivenAt old.problem new.vertices p a.given → HasSpaces (map length new.asked) wide
+  left_on : (p : Pair) → AreOfPair old.problem new.vertices p a.given → HasSpaces (map length new.asked) wide
       → (x : Assignment) → Follows new x → IsLeft x es t → IsLeft x more wide
   left_on p is spaced x f is_left =
       let of : IsOf old.problem new.vertices f.0 x = subst (λ q. IsOf q new.vertices f.0 x) a.same f.3 in
@@ -133,7 +133,7 @@ asked_follows {v = v} {i = i} {old = old} is x f =
     let at = on_trail_at old.problem old.vertices old.asked v is.asking.spaces
     (omega (arith, is.can.0, is.spaced.vertices, length-map old.asked length)) in (
       follows_before is.asking x f,
-      left_on is.asking (at.0, state_at old.problem at.0 i) (is.asking.is at.0 at.1) (asked_spaces is) x f,
+      left_on is.asking (at.0, state_at old.problem at.0 i) (given_how is.asking at.0 at.1) (asked_spaces is) x f,
     )
 
 -- ---- what is decided

@@ -69,6 +69,34 @@ pub mark_lengths : (asked : List Members) (v i : ℕ) → map length (marked ask
 mark_lengths asked v i = lengths_set asked v _
     (length-join (set_of asked v) (only (length (set_of asked v)) i) (sym (length-only (length (set_of asked v)) i)))
 
+-- ---- vertices that come, none of whose states was asked for
+
+module _ (asked : List Members) (came : List ℕ) where
+  pub wide_lengths : map length (asked ++ map none came) ≡ map length asked ++ came
+  wide_lengths = map_append length asked (map none came) ∙ ap (λ l. map length asked ++ l) (lengths_none came)
+
+  pub wide_has : (u j : ℕ) → has (set_of asked u) j ≡ true → has (set_of (asked ++ map none came) u) j ≡ true
+  wide_has u j h = elim (cases_lt u (length asked)) [
+    | inl less ↦ subst (λ s. has s j ≡ true) (sym (get_or_append_left asked (map none came) [] u less)) h
+    | inr ge ↦ absurd (false≢true (sym (ap (λ s. has s j) (past asked u ge)) ∙ h))
+  ]
+    where
+      past : (xs : List Members) (k : ℕ) → length xs ≤ k → set_of xs k ≡ []
+      past [] zero le = refl
+      past [] (suc k) le = refl
+      past (x ∷ xs) zero le = absurd (omega (arith, le))
+      past (x ∷ xs) (suc k) le = past xs k (omega (arith, le))
+
+  pub wide_either : (u j : ℕ) → has (set_of (asked ++ map none came) u) j ≡ true
+      → (u < length asked) × (has (set_of asked u) j ≡ true)
+  wide_either u j k = elim (cases_lt u (length asked)) [
+    | inl less ↦ (less, subst (λ s. has s j ≡ true) (get_or_append_left asked (map none came) [] u less) k)
+    | inr ge ↦ absurd (false≢true (sym (ap (λ s. has s j)
+        (get_or-append_right asked (map none came) (length asked) u [] refl ge) ∙ past_none came _ j) ∙ k))
+  ]
+
+-- ---- and one is marked
+
 module _ (asked : List Members) (came : List ℕ) (v i : ℕ) (low : v < length asked)
     (lt : i < length (set_of asked v)) where
   wide : List Members
@@ -97,29 +125,17 @@ module _ (asked : List Members) (came : List ℕ) (v i : ℕ) (low : v < length 
   unfolding wide
   marked_lengths =
       lengths_set (asked ++ map none came) v _ (length-join (set_of wide v) (only (length (set_of wide v)) i) fits)
-      ∙ map_append length asked (map none came) ∙ ap (λ l. map length asked ++ l) (lengths_none came)
+      ∙ wide_lengths asked came
 
   -- what was asked for is so afterwards
-  wide_has : (u j : ℕ) → has (set_of asked u) j ≡ true → has (set_of (asked ++ map none came) u) j ≡ true
-  wide_has u j h = elim (cases_lt u (length asked)) [
-    | inl less ↦ subst (λ s. has s j ≡ true) (sym (get_or_append_left asked (map none came) [] u less)) h
-    | inr ge ↦ absurd (false≢true (sym (ap (λ s. has s j) (past asked u ge)) ∙ h))
-  ]
-    where
-      past : (xs : List Members) (k : ℕ) → length xs ≤ k → set_of xs k ≡ []
-      past [] zero le = refl
-      past [] (suc k) le = refl
-      past (x ∷ xs) zero le = absurd (omega (arith, le))
-      past (x ∷ xs) (suc k) le = past xs k (omega (arith, le))
-
   pub marked_more : (u j : ℕ) → has (set_of asked u) j ≡ true
       → has (set_of (marked (asked ++ map none came) v i) u) j ≡ true
   unfolding wide
   marked_more u j h = elim (cases_eq u v) [
     | inl e ↦ subst (λ w. has (set_of (marked (asked ++ map none came) v i) w) j ≡ true) (sym e)
         (subst (λ s. has s j ≡ true) (sym at_it) (join_left (set_of wide v) (only (length (set_of wide v)) i) j fits
-        (subst (λ w. has (set_of (asked ++ map none came) w) j ≡ true) e (wide_has u j h))))
-    | inr ne ↦ subst (λ s. has s j ≡ true) (sym (at_other u ne)) (wide_has u j h)
+        (subst (λ w. has (set_of (asked ++ map none came) w) j ≡ true) e (wide_has asked came u j h))))
+    | inr ne ↦ subst (λ s. has s j ≡ true) (sym (at_other u ne)) (wide_has asked came u j h)
   ]
 
   pub marked_now : has (set_of (marked (asked ++ map none came) v i) v) i ≡ true
@@ -141,13 +157,5 @@ module _ (asked : List Members) (came : List ℕ) (v i : ℕ) (low : v < length 
           )
           | inr now ↦ inl (e, only_is (length (set_of wide v)) i j now)
         ]
-    | inr ne ↦ before (subst (λ s. has s j ≡ true) (at_other u ne) h)
+    | inr ne ↦ inr (wide_either asked came u j (subst (λ s. has s j ≡ true) (at_other u ne) h))
   ]
-    where
-      before : has (set_of (asked ++ map none came) u) j ≡ true
-          → ((u ≡ v) × (j ≡ i)) ⊎ ((u < length asked) × (has (set_of asked u) j ≡ true))
-      before k = elim (cases_lt u (length asked)) [
-        | inl less ↦ inr (less, subst (λ s. has s j ≡ true) (get_or_append_left asked (map none came) [] u less) k)
-        | inr ge ↦ absurd (false≢true (sym (ap (λ s. has s j)
-            (get_or-append_right asked (map none came) (length asked) u [] refl ge) ∙ past_none came _ j) ∙ k))
-      ]

@@ -28,7 +28,7 @@ use Rattle.searching.proofs.Counts.{no_combinations}
 use Rattle.searching.proofs.Guides.{spaces_wider}
 use Rattle.guiding.specs.Guides.{CanFollow, Follows, HasBegun, IsCome, IsEncoding, IsOfInstance, IsPut, as_entry}
 use Rattle.guiding.specs.Guides.{asked_of, encoded_view, with_given}
-use Rattle.guiding.proofs.Adding.{given_at, given_of, said_long, with_given_is}
+use Rattle.guiding.proofs.Adding.{given_at, given_of, of_all, said_long, with_given_is}
 use Rattle.guiding.proofs.Following.{more_unbroken, wider_agrees}
 use Rattle.guiding.proofs.Marks.{lengths_none, past_none}
 use Rattle.guiding.proofs.Numbers.{on_trail_most}
@@ -58,15 +58,15 @@ seen_first asked es t trail =
         ap length full ∙ length-replicate (space_of t v) true in
         omega (arith, n, below, long)
 
-pub begun : (i : KnownProblem) (follows : Option Content) (put vs : Numbering) (n : ℕ) (asked : List Members)
+pub begun : (i : KnownProblem) (follows : Option Content) (put vs : Numbering) (n m : ℕ) (asked : List Members)
     (t wide : TrailView) (more : List EntryView) (given : List Given) → IsEncoding i vs asked
     → CanFollow (problem i) follows → slice_get put n ≡ Some root → IsCome [] asked t wide → length vs ≤ length asked
     → length t.sets ≡ 0 → t.steps ≡ [] → IsTrail [] wide
     → ((w : Vertex) → slice_get put n ≡ Some w → IsGivenAt (problem i) vs (w, state_at (problem i) w 0) given)
     → more ≡ with_given [] given
-    → HasBegun (problem i) follows (encoded_view (problem i) vs asked 0 follows) wide more
-begun i follows put vs n asked t wide more given encoding can at come whole bare steps trail is stored = subst
-    (λ es. HasBegun (problem i) follows (encoded_view (problem i) vs asked 0 follows) wide es) (sym entries) (record {
+    → HasBegun (problem i) follows (encoded_view (problem i) vs asked 0 follows m) wide more
+begun i follows put vs n m asked t wide more given encoding can at come whole bare steps trail is stored = subst
+    (λ es. HasBegun (problem i) follows (encoded_view (problem i) vs asked 0 follows m) wide es) (sym entries) (record {
       problem = refl;
       whole = (let most = on_trail_most (problem i) vs asked encoding.spaces in omega (arith, most, whole));
       spaces = spaced;
@@ -128,11 +128,12 @@ begun i follows put vs n asked t wide more given encoding can at come whole bare
     none_combined : combinations (map as_entry given) ≡ 0
     none_combined = no_combinations (map as_entry given) are_axioms
 
-    start_left : (x : Assignment) → Follows (encoded_view (problem i) vs asked 0 follows) x
+    start_left : (x : Assignment) → Follows (encoded_view (problem i) vs asked 0 follows m) x
         → IsLeft x (map as_entry given) wide
     start_left x f = (
       more_unbroken (problem i) vs f.0 x f.3 (root, absent) []
-          (map as_entry given) given encoding.catalogue f.2 root_given refl (λ id lt broken. omega (arith, lt)),
+          (map as_entry given) given encoding.catalogue f.2
+          (of_all (problem i) vs (root, absent) given root_given) refl (λ id lt broken. omega (arith, lt)),
       wider_agrees (problem i) vs f.0 x f.3 asked come.came t wide encoding.spaces spaced come.wider
           (λ u lt. absurd (omega (arith, lt, bare))),
     )

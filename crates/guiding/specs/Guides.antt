@@ -1,6 +1,6 @@
 -- What the guide of a search over a problem keeps: which vertices have numbers, and which pairs of a vertex and a state
 -- were asked for.
-use Rattle.std.specs.Prelude.{◌≡◌, ◌<◌, ◌≤◌, ◌==◌, ℕ, suc, List, [], ◌∷◌, ◌++◌, Bool, true, false, ◌||◌, length, map}
+use Rattle.std.specs.Prelude.{◌≡◌, ◌⊎◌, ◌+◌, ◌<◌, ◌≤◌, ◌==◌, ℕ, suc, List, [], ◌∷◌, ◌++◌, Bool, true, false, ◌||◌, length, map}
 use Rattle.std.specs.Prelude.{take, Option, Some, None, IfSome, IsSome, slice_get, slice_set}
 use Rattle.version_sets.specs.Sets.{Members, has, join, none, only, size}
 use Rattle.incompatibilities.specs.Incompatibilities.{Assignment}
@@ -22,7 +22,7 @@ use Rattle.model.specs.Search.{IsUnbroken}
 use Rattle.numbering.specs.Assignments.{IsOf, state_at, state_of}
 use Rattle.numbering.specs.KnownProblem.{KnowsDefault, problem}
 use Rattle.numbering.specs.Numberings.{IsGrown, IsNumbering, Numbering, Says, number_in}
-use Rattle.numbering.specs.Pairs.{Given, IsGivenAt, Pair, first_pair}
+use Rattle.numbering.specs.Pairs.{AreOfPair, Given, IsGivenAt, Pair, first_pair}
 use Rattle.numbering.specs.declared.known_problem.KnownProblem.{KnownProblem}
 use Rattle.incompatibilities.specs.Counts.{combinations}
 use Rattle.searching.specs.Searching.{HasSpaces, IsOnly, IsRefutation, IsSeen, Pairs}
@@ -32,17 +32,19 @@ use Rattle.searching.specs.Following as following
 use Rattle.guiding.specs.Remaining.{late_of, open_of, spaces_of}
 
 -- the problem, the vertices by their numbers, for each that the trail has the states that were asked for, of how many
--- places of the trail the vertex was looked at, and the content that is followed, if there is one
+-- places of the trail the vertex was looked at, the content that is followed, if there is one, and how many pairs may
+-- still be begun with
 pub record EncodedView : Type 0 where
   pub problem : Problem
   pub vertices : Numbering
   pub asked : List Members
   pub seen : ℕ
   pub follows : Option Content
+  pub to_begin : ℕ
 
-abbrev pub encoded_view : Problem → Numbering → List Members → ℕ → Option Content → EncodedView
-encoded_view q vs asked seen follows =
-    record { problem = q; vertices = vs; asked = asked; seen = seen; follows = follows }
+abbrev pub encoded_view : Problem → Numbering → List Members → ℕ → Option Content → ℕ → EncodedView
+encoded_view q vs asked seen follows n =
+    record { problem = q; vertices = vs; asked = asked; seen = seen; follows = follows; to_begin = n }
 
 -- the vertices that the trail has
 abbrev pub on_trail : Numbering → List Members → Numbering
@@ -85,7 +87,7 @@ abbrev pub late_with : EncodedView → ℕ
 late_with g = late_of g.problem (on_trail g.vertices g.asked)
 
 abbrev pub left_with : EncodedView → ℕ
-left_with g = open_of g.problem (asked_at g.vertices g.asked)
+left_with g = open_of g.problem (asked_at g.vertices g.asked) + g.to_begin
 
 -- no vertex is to be decided: each that can no longer be absent has one state at most
 abbrev pub IsDone : TrailView → Type 0
@@ -161,7 +163,22 @@ abbrev pub IsNextOpen : TrailView → List Members → ℕ → Option (ℕ × �
 IsNextOpen t asked seen None = length t.steps ≤ seen
 IsNextOpen t asked seen (Some d) = (d.0 < length t.sets) × IsOpenAt t.sets asked d.0 (Some d.1)
 
--- the instances of a pair come into the store, and the vertices that they speak of onto the trail
+-- a pair is asked for: all its instances are given
+pub record AreAll (v i : ℕ) (old new : EncodedView) (came : List ℕ) (given : List Given) : Type 0 where
+  pub marks : new.asked ≡ marked (old.asked ++ map none came) v i
+  pub is : (w : Vertex) → slice_get old.vertices v ≡ Some w
+      → IsGivenAt old.problem new.vertices (w, state_at old.problem w i) given
+  pub begins : new.to_begin ≡ old.to_begin
+
+-- a pair is begun with: some of its instances are given
+pub record AreFirst (v i : ℕ) (old new : EncodedView) (came : List ℕ) (given : List Given) : Type 0 where
+  pub marks : new.asked ≡ old.asked ++ map none came
+  pub is : (w : Vertex) → slice_get old.vertices v ≡ Some w
+      → AreOfPair old.problem new.vertices (w, state_at old.problem w i) given
+  pub begins : old.to_begin ≡ suc new.to_begin
+
+-- the instances of a pair, or the first of them, come into the store, and the vertices that they speak of onto the
+-- trail
 pub record IsAsking (v i : ℕ) (old new : EncodedView) (t wide : TrailView) (es more : List EntryView) : Type 0 where
   pub same : new.problem ≡ old.problem
   pub seen_is : new.seen ≡ old.seen
@@ -174,12 +191,10 @@ pub record IsAsking (v i : ℕ) (old new : EncodedView) (t wide : TrailView) (es
   pub whole : length new.vertices ≤ length new.asked
   pub spaced : map length new.asked ≡ spaces_of old.problem (on_trail new.vertices new.asked)
   pub came : List ℕ
-  pub marks : new.asked ≡ marked (old.asked ++ map none came) v i
   pub wider : IsWider came t wide
   pub trail : IsTrail es wide
   pub given : List Given
-  pub is : (w : Vertex) → slice_get old.vertices v ≡ Some w
-      → IsGivenAt old.problem new.vertices (w, state_at old.problem w i) given
+  pub how : AreAll v i old new came given ⊎ AreFirst v i old new came given
   pub stored : more ≡ with_given es given
 
 -- a search may begin: the root alone is on the trail with all that its absence speaks of, and its absence is stored

@@ -25,10 +25,11 @@ use catalogue::catalogues_are_well_formed;
 use following::state_in;
 use incompatibilities::{Id, Store};
 use lockfile::LockContent;
-use numbering::{KnownProblem, Table, axioms_at};
+use numbering::{KnownProblem, Table, axioms_at, first_axioms_at};
 use propagation::Trail;
 use searching::Guide;
 use std::alloc::{AllocError, Global};
+use std::collections::BTreeSet;
 use std::marker::Model;
 use version_sets::States;
 use vertices::VertexRef;
@@ -50,6 +51,10 @@ pub struct Encoded<'a, S: States> {
     next: Option<usize>,
     /// What the version that is decided next needs.
     leads: Leads,
+    /// The pairs whose first instances were brought, where a dependency isn't alone on its package.
+    begun: BTreeSet<(usize, u32)>,
+    /// So many more may be begun so. Each takes one off, by which the search is seen to end.
+    to_begin: u64,
 }
 
 impl<'a, S: States> Model for Encoded<'a, S> {
@@ -59,7 +64,8 @@ impl<'a, S: States> Model for Encoded<'a, S> {
 
     ghost Value = { EncodedView };
 
-    ghost view = { λ g. encoded_view (problem g.known) g.table (map S.tests g.asked.items) g.seen g.follows };
+    ghost view = { λ g.
+        encoded_view (problem g.known) g.table (map S.tests g.asked.items) g.seen g.follows g.to_begin };
 
     ghost invariant = { λ g. IsEncoding g.known g.table (map S.tests g.asked.items)
         × CanFollow (problem g.known) g.follows };
@@ -102,6 +108,8 @@ impl<'a, S: States + Drop> Encoded<'a, S> {
             order: Order::new(alloc),
             next: None,
             leads: Leads::new(alloc),
+            begun: BTreeSet::new(alloc),
+            to_begin: u64::MAX,
         })
     }
 
@@ -173,6 +181,71 @@ impl<'a, S: States + Drop> Encoded<'a, S> {
         )?;
         put_given(store, given)?;
         mark(self.alloc, &mut self.asked, vertex, state)
+    }
+
+    /// Brings the first instances of a pair into the store: those of a dependency in a class that name no other one.
+    fn begin_with(
+        &mut self,
+        trail: &mut Trail<S>,
+        store: &mut Store<S>,
+        vertex: usize,
+        state: u32,
+    ) -> Result<(), AllocError>
+        requires some { 0 < self.old.to_begin }
+        requires trail { IsTrail (entries_view S.tests store.old) (trail_view S.tests trail.old) }
+        requires vertex { vertex < length self.old.asked }
+        requires state { state < length (set_of self.old.asked vertex) }
+        ensures { OnOk result (IsAsking vertex state self.old self.new (trail_view S.tests trail.old)
+            (trail_view S.tests trail.new) (entries_view S.tests store.old) (entries_view S.tests store.new)) }
+    {
+        let number = state as usize;
+        let given = first_axioms_at(self.alloc, &self.known, &mut self.table, vertex, number)?;
+        come(
+            self.alloc,
+            &self.known,
+            &self.table,
+            &mut self.asked,
+            trail,
+            store,
+        )?;
+        put_given(store, given)?;
+        self.to_begin -= 1;
+        Ok(())
+    }
+
+    /// Whether a pair is to be begun with: one that wasn't, of a dependency that isn't alone on its package. There are
+    /// as many instances with the others as these have classes in all, and what rules the class out needs none of them.
+    fn takes_long(&mut self, vertex: usize, state: u32) -> Result<bool, AllocError>
+        ensures same { self.new ≡ self.old }
+        ensures some { IfOk result (λ b. b ≡ true → 0 < self.new.to_begin) }
+    {
+        let known = &self.known;
+        let shares = known.matched.has_others(&self.table, vertex);
+        if self.to_begin == 0 || !shares {
+            return Ok(false);
+        }
+        Ok(self.begun.insert((vertex, state))?)
+    }
+
+    /// Brings the instances of a pair, or the first of them, into the store.
+    fn bring(
+        &mut self,
+        trail: &mut Trail<S>,
+        store: &mut Store<S>,
+        vertex: usize,
+        state: u32,
+    ) -> Result<(), AllocError>
+        requires trail { IsTrail (entries_view S.tests store.old) (trail_view S.tests trail.old) }
+        requires vertex { vertex < length self.old.asked }
+        requires state { state < length (set_of self.old.asked vertex) }
+        ensures { OnOk result (IsAsking vertex state self.old self.new (trail_view S.tests trail.old)
+            (trail_view S.tests trail.new) (entries_view S.tests store.old) (entries_view S.tests store.new)) }
+    {
+        if self.takes_long(vertex, state)? {
+            self.begin_with(trail, store, vertex, state)
+        } else {
+            self.ask(trail, store, vertex, state)
+        }
     }
 
     /// The state that a vertex has in the content that is followed, if it is left.
@@ -289,7 +362,7 @@ impl<'a, S: States + Drop> Guide<S> for Encoded<'a, S> {
     fn axioms(&mut self, trail: &mut Trail<S>, store: &mut Store<S>) -> Result<bool, AllocError> {
         match next_open(trail, &self.asked, &mut self.seen) {
             Some((vertex, state)) => {
-                self.ask(trail, store, vertex, state)?;
+                self.bring(trail, store, vertex, state)?;
                 Ok(true)
             }
             // Nothing that stands alone is left to ask for. What the decision would bring is asked for before it.
@@ -300,7 +373,7 @@ impl<'a, S: States + Drop> Guide<S> for Encoded<'a, S> {
                 match self.ahead(trail, lead)? {
                     Some((vertex, state)) => {
                         let before = store.len();
-                        self.ask(trail, store, vertex, state)?;
+                        self.bring(trail, store, vertex, state)?;
                         self.leads.note(lead, store, before)?;
                         Ok(true)
                     }

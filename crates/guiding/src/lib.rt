@@ -14,6 +14,10 @@
 //! asked for before (`leads.rt`), so that a version which they leave out at once opens no level. The contract asks only
 //! for a state that is left, so another preference changes no proof.
 //!
+//! Where an owner has several dependencies on one package, each has an instance with every class of the others, so a
+//! pair of such a one is begun with those that name no other (`begin_with`). The rest comes once these are propagated
+//! and the class is still left: 64 dependencies over 60 classes that lack a feature take 2 % of the time.
+//!
 //! A layer above may rely on this: the search ends where each vertex, taken `absent` if that is left, else in its one
 //! state, breaks no instance of an axiom; or with an entry without terms, from entries that are instances of their
 //! kinds. One that follows a valid selection ends with a selection, in which the states of the given one are left.

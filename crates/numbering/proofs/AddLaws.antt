@@ -56,9 +56,13 @@ cause_there P (y ∷ all) (suc i) x h lt is = cause_there P all i x h.1 (omega (
 
 -- ---- those of a pair
 
+pub all_there : (q : Problem) (cs : List Cause) → ((c : Cause) → Contains cs c → is_cause q c ≡ true)
+    → AllByRecursion (λ c. is_cause q c ≡ true) cs
+all_there q cs each = all_each (λ c. is_cause q c ≡ true) cs each
+
 pub causes_there : (q : Problem) (p : Pair) (cs : List Cause) → AreCausesAt q p cs
     → AllByRecursion (λ c. is_cause q c ≡ true) cs
-causes_there q p cs are = all_each (λ c. is_cause q c ≡ true) cs (λ c i. ((are.listed c).0 i).0)
+causes_there q p cs are = all_there q cs (λ c i. ((are.listed c).0 i).0)
 
 found : {X : Type 0} (xs : List X) (n : ℕ) (d : X) → n < length xs → Contains xs (unwrap_or (slice_get xs n) d)
 found [] n d lt = absurd (omega (arith, lt))

@@ -81,10 +81,14 @@ module _ (q : Problem) where
   newest_above o i k d m =
       if is_lower k m then each_from (newest_if o i k d m) 0 (owner_brings q o).dependencies else []
 
+  -- its target and the features that it asks for: what it gives without another dependency
+  abbrev pub alone_causes : Owner → ℕ → Class → Option Dependency → List Cause
+  alone_causes o i k None = []
+  alone_causes o i k (Some d) = of_target o i k ∷ map (of_list o i k) (asked_of_target d ++ root_asked o d)
+
   abbrev pub lead_causes : Owner → ℕ → Class → Option Dependency → List Cause
   lead_causes o i k None = []
-  lead_causes o i k (Some d) = of_target o i k ∷ (map (of_list o i k) (asked_of_target d ++ root_asked o d)
-      ++ flat_map (newest_above o i k d) (dep_classes q d))
+  lead_causes o i k (Some d) = alone_causes o i k (Some d) ++ flat_map (newest_above o i k d) (dep_classes q d)
 
   -- ---- of each vertex in each of its states
 
@@ -96,6 +100,11 @@ module _ (q : Problem) where
   causes_at (feat name k f) present = of_feature name k f ∷ []
   causes_at (ask name v i g) present = map (of_ask name v i g) (classes_at q (version_of name v) i)
   causes_at _ _ = []
+
+-- those of a dependency in a class that name no other dependency
+abbrev pub first_causes : Problem → Vertex → State → List Cause
+first_causes q (dep o i) (in_class k) = alone_causes q o i k (dependency_at q o i)
+first_causes q _ _ = []
 
 -- ---- each once
 

@@ -1,4 +1,5 @@
 pub mod Numberings
+pub mod CausesAt
 pub mod Pairs
 pub mod Assignments
 pub mod Numbered
@@ -7,7 +8,6 @@ pub mod Finals
 pub mod KnownProblem
 pub mod TestedTerms
 pub mod GivenViews
-pub mod CausesAt
 pub mod ByClass
 pub mod Lists
 pub mod Called

@@ -10,6 +10,7 @@ use Rattle.model.specs.Vertices.{version, in_class}
 use Rattle.model.specs.Axioms.{Kind}
 use Rattle.refutations.specs.Causes.{Cause, of_root, of_need, of_target, of_feature, of_list, of_ask, of_entry}
 use Rattle.refutations.specs.Causes.{of_enabling, of_asking, of_newest, of_weak, kind_of, is_cause, terms_of_cause}
+use Rattle.numbering.specs.CausesAt.{first_causes}
 use Rattle.numbering.specs.Numberings.{Numbering, Says}
 
 abbrev pub Pair : Type 0
@@ -62,6 +63,16 @@ AreGiven q vs (c ∷ cs) [] = ⊥
 pub record IsGivenAt (q : Problem) (vs : Numbering) (p : Pair) (xs : List Given) : Type 0 where
   pub causes : List Cause
   pub are : AreCausesAt q p causes
+  pub given : AreGiven q vs causes xs
+
+-- what is given first of a pair: the instances of those that name no other dependency
+abbrev pub IsFirstGiven : Problem → Numbering → Pair → List Given → Type 0
+IsFirstGiven q vs p xs = AreGiven q vs (first_causes q p.0 p.1) xs
+
+-- instances of causes of the pair, whichever
+pub record AreOfPair (q : Problem) (vs : Numbering) (p : Pair) (xs : List Given) : Type 0 where
+  pub causes : List Cause
+  pub are : (c : Cause) → Contains causes c → IsCauseAt q p c
   pub given : AreGiven q vs causes xs
 
 -- the vertices of a cause's instance, those of full terms too

@@ -10,7 +10,7 @@ ghost use Rattle.refutations.specs.Causes.{dependency_at, of_list};
 ghost use Rattle.numbering.specs.Asked.{asked_so, features_of};
 ghost use Rattle.numbering.specs.Called.{numbered_from, numbered_view, numbered_views};
 ghost use Rattle.numbering.specs.GivenViews.{cause_views};
-ghost use Rattle.numbering.specs.CausesAt.{lead_causes, newest_above, root_asked};
+ghost use Rattle.numbering.specs.CausesAt.{alone_causes, lead_causes, newest_above, root_asked};
 ghost use Rattle.numbering.specs.ByClass.{newest_among, newest_with};
 ghost use Rattle.numbering.specs.OnPackage.{is_other, others_on};
 ghost use Rattle.numbering.specs.KnownProblem.{KnowsDefault, problem};
@@ -68,9 +68,43 @@ fn put_leading<'a>(
         ++ lead_causes (problem known.now) (owner_ref_view lead.entry.owner) lead.entry.number
         (class_view lead.entry.class) (Some (dependency_view dependency.entry.now))) }
 {
-    causes.push(Cause::Target(lead.owner, lead.number, lead.class))?;
-    put_lists(alloc, known, causes, lead, dependency)?;
+    put_alone(alloc, known, causes, lead, dependency)?;
     put_newest(alloc, known, causes, lead, dependency)
+}
+
+/// What a dependency gives that leads to a class without another dependency: nothing where it isn't there.
+pub(crate) fn put_lead_alone<'a>(
+    alloc: Global,
+    known: &KnownProblem<'a>,
+    causes: &mut Vec<Cause<'a>>,
+    lead: Lead<'a>,
+) -> Result<(), AllocError>
+    requires default { KnowsDefault known.now }
+    ensures { OnOk result (cause_views causes.new.items ≡ cause_views causes.old.items ++ alone_causes
+        (problem known.now) (owner_ref_view lead.entry.owner) lead.entry.number (class_view lead.entry.class)
+        (dependency_at (problem known.now) (owner_ref_view lead.entry.owner) lead.entry.number)) }
+{
+    match dependency_at(known, &lead.owner, lead.number) {
+        Some(dependency) => put_alone(alloc, known, causes, lead, dependency),
+        None => Ok(()),
+    }
+}
+
+/// Its target, and the features that it asks for by its list.
+fn put_alone<'a>(
+    alloc: Global,
+    known: &KnownProblem<'a>,
+    causes: &mut Vec<Cause<'a>>,
+    lead: Lead<'a>,
+    dependency: &'a DependencyParts,
+) -> Result<(), AllocError>
+    requires default { KnowsDefault known.now }
+    ensures { OnOk result (cause_views causes.new.items ≡ cause_views causes.old.items
+        ++ alone_causes (problem known.now) (owner_ref_view lead.entry.owner) lead.entry.number
+        (class_view lead.entry.class) (Some (dependency_view dependency.entry.now))) }
+{
+    causes.push(Cause::Target(lead.owner, lead.number, lead.class))?;
+    put_lists(alloc, known, causes, lead, dependency)
 }
 
 /// The features that it asks for.

@@ -74,7 +74,7 @@ pub use instances::instance;
 pub use known_problem::KnownProblem;
 pub use lookups::dependency_at;
 pub use matched::Matched;
-pub use pair_axioms::{axioms_at, axioms_of};
+pub use pair_axioms::{axioms_at, axioms_of, first_axioms_at};
 pub use pair_causes::causes_at;
 pub use possible_classes::classes_of;
 pub use spaces::{space_at, space_of, spaces_are_small};

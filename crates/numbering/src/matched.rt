@@ -124,6 +124,17 @@ impl<'a> Matched<'a> {
         }
     }
 
+    /// Whether the vertex of this number is a dependency whose owner has another one on its package.
+    pub fn has_others(&self, table: &Table<'a>, number: usize) -> bool {
+        let Some(VertexRef::Dependency(owner, place)) = table.vertex(number) else {
+            return false;
+        };
+        match dependencies_of(&self.problem, &owner).get(place) {
+            Some(dependency) => self.by_class(&owner, &dependency.real_name).is_some(),
+            None => false,
+        }
+    }
+
     /// Matches what the owner needs that the vertex of this number is in the state of this number: all dependencies of
     /// which the axioms of the two speak are its.
     ///

@@ -11,12 +11,12 @@ ghost use Rattle.numbering.specs.GivenViews.{cause_views, given_views};
 ghost use Rattle.named_terms.specs.CauseViews.{cause_view};
 ghost use Rattle.numbering.specs.KnownProblem.{KnowsDefault, problem};
 ghost use Rattle.numbering.specs.Numberings.{AddsOnly, IsGrown, IsNumbering};
-ghost use Rattle.numbering.specs.Pairs.{AreGiven, IsCauseAt, IsGivenAt, IsSpokenOf, spoken_by};
+ghost use Rattle.numbering.specs.Pairs.{AreGiven, IsCauseAt, IsFirstGiven, IsGivenAt, IsSpokenOf, spoken_by};
 ghost use Rattle.vertices.specs.RefViews.{state_ref_view, vertex_ref_view};
 
 use crate::instances::instance;
 use crate::known_problem::KnownProblem;
-use crate::pair_causes::causes_at;
+use crate::pair_causes::{causes_at, first_causes_at};
 use crate::states::state_at;
 use crate::table::Table;
 use incompatibilities::Incompatibility;
@@ -49,6 +49,54 @@ pub fn axioms_at<'a, S: States + Drop>(
         Some(vertex) => vertex_axioms(alloc, known, table, vertex, state),
         None => Ok(Vec::new(alloc)),
     }
+}
+
+/// Of the same those of a dependency in a class that speak of no other dependency; none of another vertex. So what the
+/// class itself rules out is found before the other dependencies on the package are looked at.
+pub fn first_axioms_at<'a, S: States + Drop>(
+    alloc: Global,
+    known: &KnownProblem<'a>,
+    table: &mut Table<'a>,
+    number: usize,
+    state: usize,
+) -> Result<Vec<(Kind, Incompatibility<S>)>, AllocError>
+    requires default { KnowsDefault known.now }
+    requires numbering { IsNumbering (problem known.now) table.old }
+    requires state { (v : Vertex) → slice_get table.old number ≡ Some v
+        → state < length (space (problem known.now) v) }
+    ensures grown { IsGrown table.old table.new }
+    ensures numbering { IsNumbering (problem known.now) table.new }
+    ensures given { IfOk result (λ xs. (v : Vertex) → slice_get table.old number ≡ Some v → IsFirstGiven
+        (problem known.now) table.new (v, state_at (problem known.now) v state) (given_views S.tests xs.items)) }
+{
+    match table.vertex(number) {
+        Some(vertex) => first_axioms(alloc, known, table, vertex, state),
+        None => Ok(Vec::new(alloc)),
+    }
+}
+
+/// The same of a vertex.
+fn first_axioms<'a, S: States + Drop>(
+    alloc: Global,
+    known: &KnownProblem<'a>,
+    table: &mut Table<'a>,
+    vertex: VertexRef<'a>,
+    number: usize,
+) -> Result<Vec<(Kind, Incompatibility<S>)>, AllocError>
+    requires default { KnowsDefault known.now }
+    requires numbering { IsNumbering (problem known.now) table.old }
+    requires vertex { IsVertex (problem known.now) (vertex_ref_view vertex) }
+    requires state { number < length (space (problem known.now) (vertex_ref_view vertex)) }
+    ensures grown { IsGrown table.old table.new }
+    ensures numbering { IsNumbering (problem known.now) table.new }
+    ensures given { IfOk result (λ xs. IsFirstGiven (problem known.now) table.new (
+      vertex_ref_view vertex.entry,
+      state_at (problem known.now) (vertex_ref_view vertex.entry) number,
+    ) (given_views S.tests xs.items)) }
+{
+    let state = state_at(alloc, known, &vertex, number)?;
+    let causes = first_causes_at(alloc, known, vertex, state)?;
+    instances(alloc, known, table, causes.as_slice())
 }
 
 /// The same of a vertex.

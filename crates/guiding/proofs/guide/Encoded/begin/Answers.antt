@@ -15,7 +15,7 @@ returns g c =
     let t = trail_view tests c.args.trail.now in
     let wide = trail_view tests c.come.new.trail in
     let given = given_views tests c.in_ok-given.given.items in
-    begun c.args.known c.args.follows c.put.new.self c.axioms_at.new.table c.in_ok-root.root asked t wide
+    begun c.args.known c.args.follows c.put.new.self c.axioms_at.new.table c.in_ok-root.root _ asked t wide
     (entries_view tests c.put_given.new.store) given c.come.ensures.encoding c.requires.follows
     c.in_ok-root.ensures.number
     (subst (λ l. IsCome (map tests l) asked t wide) c.new-asked.ensures.items c.in_ok-come.ensures.came)
