@@ -29,7 +29,7 @@ same_number : (a b : ℕ) → nat_lt a b ≡ false → nat_lt b a ≡ false → 
 same_number a b h k = grind (arith, h, k)
 
 -- two classes of which neither is lower are one
-neither : (k m : Class) → is_lower k m ≡ false → is_lower m k ≡ false → k ≡ m
+pub neither : (k m : Class) → is_lower k m ≡ false → is_lower m k ≡ false → k ≡ m
 neither (patch a) (patch b) h k = ap patch (same_number a b h k)
 neither (patch a) (minor b) h k = absurd (true≢false h)
 neither (patch a) (major b) h k = absurd (true≢false h)
@@ -133,7 +133,7 @@ comes c e less = by (is_lower (class_of e.version) (class_of c.version)) refl
         class_above e.version c.version h in absurd (true≢false (sym x ∙ ap is_gt less))
     by false h = refl
 
-pairs_comes : (cs : List Candidate) → AllPairs IsOlder cs → AllPairs Comes (map class_at cs)
+pub pairs_comes : (cs : List Candidate) → AllPairs IsOlder cs → AllPairs Comes (map class_at cs)
 pairs_comes [] h = pairs_none Comes
 pairs_comes (c ∷ cs) h = AllPairs-cons Comes (class_at c) (map class_at cs)
     (all_in (Comes (class_at c)) (map class_at cs) (λ k i. let r = in_map class_at cs k i in
@@ -149,7 +149,7 @@ pairs_filter p (c ∷ cs) h = by (pairs_filter p cs (pairs_rest IsOlder c cs h))
         (all_in (IsOlder c) (filter p cs) (λ e i. pairs_first IsOlder c e cs h (in_filter p cs e i).0)) rest
     by rest false = rest
 
-classes_folded : (cs : List Candidate) → classes_of cs ≡ folded (map class_at cs)
+pub classes_folded : (cs : List Candidate) → classes_of cs ≡ folded (map class_at cs)
 classes_folded [] = refl
 classes_folded (c ∷ cs) = ap (add_class (class_of c.version)) (classes_folded cs)
 

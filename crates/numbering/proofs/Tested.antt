@@ -22,8 +22,6 @@ use Rattle.catalogue.specs.Problems.{problem_in}
 use Rattle.catalogue.specs.Stores.{CatalogueView, candidates_at}
 use Rattle.catalogue.specs.Views.{Said, said, said_by}
 use Rattle.catalogue.specs.declared.candidate.Candidate as stored
-use Rattle.classes.specs.Classes.{class_view}
-use Rattle.classes.specs.declared.class.Class as code
 use Rattle.refutations.specs.Listed.{classes_at, classes_if}
 use Rattle.numbering.specs.Numberings.{members_at}
 use Rattle.numbering.specs.TestedTerms.{is_chosen, is_class}
@@ -188,19 +186,15 @@ module _ (q : Problem) (o : Owner) (i : ℕ) where
       by None = refl
       by (Some d) = ap (λ l. has_state ss absent ∷ l) (map_map (has_state ss) in_class _)
 
-  module _ (ks : List code.Class) (are : map class_view ks ≡ classes_at q o i) where
-    pub no_class_is : true ∷ map (λ k. false) ks ≡ members_at q (dep o i) (absent ∷ [])
-    no_class_is = ap (λ l. true ∷ l) (sym (map_map (λ k. false) class_view ks) ∙ ap (map (λ k. false)) are)
-        ∙ sym (members_dep (absent ∷ []))
+  pub no_class_is : true ∷ map (λ k. false) (classes_at q o i) ≡ members_at q (dep o i) (absent ∷ [])
+  no_class_is = sym (members_dep (absent ∷ []))
 
-    pub class_is : (k : Class)
-        → false ∷ map (λ m. is_class k (class_view m)) ks ≡ members_at q (dep o i) (in_class k ∷ [])
-    unfolding is_class
-    class_is k =
-        ap (λ l. false ∷ l) (sym (map_map (λ m. same_class m k) class_view ks) ∙ ap (map (λ m. same_class m k)) are
-        ∙ map_along (λ m. same_class m k) (λ m. has_state (in_class k ∷ []) (in_class m)) (classes_at q o i)
-        (λ m c. sym (or_none (same_class m k))))
-        ∙ sym (members_dep (in_class k ∷ []))
+  pub class_is : (k : Class) → false ∷ map (is_class k) (classes_at q o i) ≡ members_at q (dep o i) (in_class k ∷ [])
+  unfolding is_class
+  class_is k =
+      ap (λ l. false ∷ l) (map_along (λ m. same_class m k) (λ m. has_state (in_class k ∷ []) (in_class m))
+      (classes_at q o i) (λ m c. sym (or_none (same_class m k))))
+      ∙ sym (members_dep (in_class k ∷ []))
 
 -- ---- the same where a class is spelt another way
 

@@ -7,9 +7,11 @@ use Rattle.model.specs.Content.{Problem, same_version}
 use Rattle.model.specs.Selection.{Class}
 use Rattle.model.specs.Vertices.{Vertex, same_class}
 use Rattle.model.specs.Axioms.{Term, IsVertex}
-use Rattle.version_sets.specs.Sets.{Members}
+use Rattle.version_sets.specs.Sets.{Members, only}
 use Rattle.numbering.specs.Numberings.{Numbering, members_at}
 use Rattle.vertices.specs.RefViews.{vertex_ref_view}
+use Rattle.numbering.specs.declared.space_tests.Tests.{Tests}
+use Rattle.numbering.specs.declared.space_tests.Tests.TheVariants.{Each, One}
 use Rattle.numbering.specs.declared.tested_terms.TestedTerm as code
 
 abbrev pub TestedTerm : Type 0
@@ -25,8 +27,13 @@ all_tested q ts = map (tested q) ts
 abbrev pub vertices_of : List TestedTerm → List Vertex
 vertices_of ps = map (λ p. p.0) ps
 
+-- which states pass: each where it is tested, or one of so many
+abbrev pub states_view : Tests → Members
+states_view (Each ts) = ts.items
+states_view (One n i) = only n i
+
 abbrev pub tested_view : code.TestedTerm → TestedTerm
-tested_view p = (vertex_ref_view p.vertex, p.tests.items)
+tested_view p = (vertex_ref_view p.vertex, states_view p.tests)
 
 abbrev pub tested_views : List code.TestedTerm → List TestedTerm
 tested_views ps = map tested_view ps

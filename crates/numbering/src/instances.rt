@@ -1,6 +1,6 @@
 //! Instances of axioms as incompatibilities over numbers.
 
-ghost use Rattle.std.specs.Prelude.{◌≡◌, ◌++◌, ◌∷◌, [], true, Contains, List, IfOk, OnOk};
+ghost use Rattle.std.specs.Prelude.{◌≡◌, ◌++◌, ◌∷◌, ◌≤◌, [], true, length, Contains, List, IfOk, OnOk};
 ghost use Rattle.std.specs.List.{AllByRecursion};
 ghost use Rattle.terms.specs.Terms.{terms_view};
 ghost use Rattle.refutations.specs.Causes.{is_cause, terms_of_cause};
@@ -9,10 +9,12 @@ ghost use Rattle.numbering.specs.KnownProblem.{problem};
 ghost use Rattle.numbering.specs.Numberings.{AddsOnly, IsGrown, IsNumbering, Says};
 ghost use Rattle.numbering.specs.Pairs.{spoken_by};
 ghost use Rattle.numbering.specs.TestedTerms.{AreOfTested, IsFitting, TestedTerm as TestedView, tested_view};
-ghost use Rattle.numbering.specs.TestedTerms.{tested_views, vertices_of};
+ghost use Rattle.numbering.specs.TestedTerms.{states_view, tested_views, vertices_of};
+ghost use Rattle.version_sets.specs.Sets.{only};
 
 use crate::known_problem::KnownProblem;
 use crate::making::made_of;
+use crate::space_tests::Tests;
 use crate::table::Table;
 use crate::tested_terms::{TestedTerm, terms_tested};
 use catalogue::catalogues_are_well_formed;
@@ -83,7 +85,29 @@ fn put_tested<'a, S: States + Drop>(
         → AreOfTested table.new (terms_view S.tests terms.new.items) (ps ++ tested_view tested_term.now ∷ [])) }
 {
     let vertex = table.put(tested_term.vertex)?;
-    let states = S::of_tests(alloc, tested_term.tests.as_slice())?;
+    let states = set_of(alloc, &tested_term.tests)?;
     terms.push(Term { vertex, states })?;
     Ok(())
+}
+
+fn set_of<S: States + Drop>(alloc: Global, tests: &Tests) -> Result<S, AllocError>
+    requires { length (states_view tests.now) ≤ 65536 }
+    ensures { IfOk result (λ s. S.tests s ≡ states_view tests.now) }
+{
+    match tests {
+        Tests::Each(tests) => S::of_tests(alloc, tests.as_slice()),
+        Tests::One { states, state } => one_of(alloc, *states, *state),
+    }
+}
+
+/// One of so many states, or none if it lies past them.
+fn one_of<S: States + Drop>(alloc: Global, states: usize, state: usize) -> Result<S, AllocError>
+    requires { states ≤ 65536 }
+    ensures { IfOk result (λ s. S.tests s ≡ only states state) }
+{
+    if state < states {
+        S::single(alloc, states as u32, state as u32)
+    } else {
+        S::empty(alloc, states as u32)
+    }
 }

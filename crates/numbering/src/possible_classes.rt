@@ -1,15 +1,18 @@
 //! The classes that dependencies may lead to.
 
-ghost use Rattle.std.specs.Prelude.{◌≡◌, map, IfOk};
+ghost use Rattle.std.specs.Prelude.{◌≡◌, ◌∷◌, true, false, map, IfOk};
 ghost use Rattle.classes.specs.Classes.{class_view};
 ghost use Rattle.features.specs.Views.{dependency_view};
 ghost use Rattle.model.specs.Vertices.{dep_classes};
 ghost use Rattle.refutations.specs.Listed.{classes_at};
 ghost use Rattle.numbering.specs.KnownProblem.{problem};
+ghost use Rattle.numbering.specs.TestedTerms.{is_class, states_view};
 ghost use Rattle.vertices.specs.RefViews.{owner_ref_view};
 
 use crate::known_problem::KnownProblem;
 use crate::lookups::dependency_at;
+use crate::space_tests::{Tests, class_tests, no_class};
+use catalogue::catalogues_are_well_formed;
 use classes::Class;
 use features::DependencyParts;
 use std::alloc::{AllocError, Global};
@@ -41,4 +44,38 @@ pub fn classes_of<'a>(
         (λ ks. map class_view ks.items ≡ dep_classes (problem known.now) (dependency_view dependency.now)) }
 {
     known.matched.classes_of(alloc, dependency)
+}
+
+/// Of a dependency's states, that it leads to the class.
+pub(crate) fn class_alone<'a>(
+    alloc: Global,
+    known: &KnownProblem<'a>,
+    dependency: &'a DependencyParts,
+    class: Class,
+) -> Result<Tests, AllocError>
+    ensures { IfOk result (λ t. states_view t ≡ false
+        ∷ map (is_class (class_view class)) (dep_classes (problem known.now) (dependency_view dependency.now))) }
+{
+    catalogues_are_well_formed(known.manifest, known.catalogue);
+    if let Some(classes) = known.matched.classes(dependency) {
+        return Ok(class_tests(class, classes));
+    }
+    let classes = classes_of(alloc, known, dependency)?;
+    Ok(class_tests(class, classes.as_slice()))
+}
+
+/// Of a dependency's states, that it is absent.
+pub(crate) fn absent_alone<'a>(
+    alloc: Global,
+    known: &KnownProblem<'a>,
+    dependency: &'a DependencyParts,
+) -> Result<Tests, AllocError>
+    ensures { IfOk result (λ t. states_view t
+        ≡ true ∷ map (λ k. false) (dep_classes (problem known.now) (dependency_view dependency.now))) }
+{
+    if let Some(classes) = known.matched.classes(dependency) {
+        return Ok(no_class(classes));
+    }
+    let classes = classes_of(alloc, known, dependency)?;
+    Ok(no_class(classes.as_slice()))
 }

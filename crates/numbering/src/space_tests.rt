@@ -1,14 +1,21 @@
 //! Sets of a vertex's states, as tests of its space: absent first, then the versions or classes in their order.
 
-ghost use Rattle.std.specs.Prelude.{◌≡◌, ◌∷◌, true, false, not, map, IfOk};
+ghost use Rattle.std.specs.Prelude.{◌≡◌, ◌∷◌, ◌+◌, ◌<◌, ◌≤◌, ◌^◌, true, false, if◌then◌else◌, length, not, map, IfOk};
+ghost use Rattle.std.specs.List.{AllPairs};
+ghost use Rattle.std.specs.List.Sorted.{IsPartitionPoint};
+ghost use Rattle.std.specs.Ordering.{is_lt};
 ghost use Rattle.semver.specs.Identifiers.{parts_of};
 ghost use Rattle.classes.specs.Classes.{class_view};
 ghost use Rattle.features.specs.Views.{requirement_view};
 ghost use Rattle.catalogue.specs.Views.{said_by};
+ghost use Rattle.model.specs.Axioms.{is_lower};
+ghost use Rattle.model.specs.Order.{precedence};
 ghost use Rattle.model.specs.Summary.{has_feature};
-ghost use Rattle.numbering.specs.TestedTerms.{is_chosen, is_class};
+ghost use Rattle.numbering.specs.TestedTerms.{is_chosen, is_class, states_view};
 ghost use Rattle.looking_up.specs.Matching.{is_left};
+ghost use Rattle.looking_up.specs.Ranges.{AreRising};
 ghost use Rattle.semver.specs.EvalViews.{matches_views};
+ghost use Rattle.version_sets.specs.Sets.{has, none, only};
 
 use catalogue::Candidate;
 use classes::{Class, is_matched};
@@ -16,6 +23,16 @@ use features::FeatureName;
 use looking_up::is_left;
 use semver::{Version, VersionReq};
 use std::alloc::{AllocError, Global};
+
+/// Which states of a vertex a term has.
+#[derive(Drop)]
+pub(crate) enum Tests {
+    /// For each state, in their order, whether the term has it.
+    Each(Vec<bool>),
+    /// One of so many states, or none if it lies past them. Most terms name one, and a vertex has as many such terms as
+    /// states: none of these is to cost as much as all tests.
+    One { states: usize, state: usize },
+}
 
 #[tactic(auto, unfolding(crate::specs::TestedTerms::is_chosen))]
 fn is_chosen(version: &Version, other: &Version) -> bool
@@ -65,23 +82,6 @@ pub(crate) fn taken_tests(
     Ok(tests)
 }
 
-/// One version alone.
-pub(crate) fn chosen_tests(
-    alloc: Global,
-    chosen: &Version,
-    versions: &[Version],
-) -> Result<Vec<bool>, AllocError>
-    ensures { IfOk result
-        (λ v. v.items ≡ false ∷ map (λ w. is_chosen (parts_of chosen.now) (parts_of w)) versions.now) }
-{
-    let mut tests = Vec::with_capacity(alloc, versions.len().saturating_add(1))?;
-    tests.push(false)?;
-    'versions: for version in versions.iter() {
-        tests.push(is_chosen(chosen, version))?;
-    }
-    Ok(tests)
-}
-
 /// Absent, and the candidates that lack the feature. It is looked for where the one before has it.
 pub(crate) fn lacking_tests(
     alloc: Global,
@@ -103,29 +103,93 @@ pub(crate) fn lacking_tests(
 }
 
 /// Absent alone.
-pub(crate) fn no_class(alloc: Global, classes: &[Class]) -> Result<Vec<bool>, AllocError>
-    ensures { IfOk result (λ v. v.items ≡ true ∷ map (λ k. false) classes.now) }
+pub(crate) fn no_class(classes: &[Class]) -> Tests
+    ensures { states_view result ≡ true ∷ map (λ k. false) classes.now }
 {
-    let mut tests = Vec::with_capacity(alloc, classes.len().saturating_add(1))?;
-    tests.push(true)?;
-    'classes: for _class in classes.iter() {
-        tests.push(false)?;
+    Tests::One {
+        states: classes.len() + 1,
+        state: 0,
     }
-    Ok(tests)
 }
 
 /// One class alone.
-pub(crate) fn class_tests(
-    alloc: Global,
-    class: Class,
-    classes: &[Class],
-) -> Result<Vec<bool>, AllocError>
-    ensures { IfOk result (λ v. v.items ≡ false ∷ map (λ k. is_class (class_view class) (class_view k)) classes.now) }
+pub(crate) fn class_tests(class: Class, classes: &[Class]) -> Tests
+    requires { AllPairs (λ j k. is_lower (class_view j) (class_view k) ≡ true) classes.now }
+    ensures { states_view result ≡ false ∷ map (λ k. is_class (class_view class) (class_view k)) classes.now }
 {
-    let mut tests = Vec::with_capacity(alloc, classes.len().saturating_add(1))?;
-    tests.push(false)?;
-    'classes: for other in classes.iter() {
-        tests.push(is_class(class, *other))?;
+    let place = lower_classes(class, classes);
+    alone(classes.len(), place, is_class_at(class, classes, place))
+}
+
+/// How many classes are lower.
+fn lower_classes(class: Class, classes: &[Class]) -> usize
+    requires { AllPairs (λ j k. is_lower (class_view j) (class_view k) ≡ true) classes.now }
+    ensures few { result ≤ length classes.now }
+    ensures place { IsPartitionPoint (λ k. is_lower (class_view k) (class_view class) ≡ true)
+        (λ k. is_lower (class_view k) (class_view class) ≡ false) classes.now result }
+{
+    classes.partition_point(|other| other.is_lower(class))
+}
+
+fn is_class_at(class: Class, classes: &[Class], place: usize) -> bool
+    ensures { result ≡ has (map (λ k. is_class (class_view class) (class_view k)) classes.now) place }
+{
+    match classes.get(place) {
+        Some(other) => is_class(class, *other),
+        None => false,
     }
-    Ok(tests)
+}
+
+/// One version alone.
+pub(crate) fn chosen_tests(chosen: &Version, versions: &[Version]) -> Tests
+    requires { AreRising versions.now }
+    ensures { states_view result ≡ false ∷ map (λ w. is_chosen (parts_of chosen.now) (parts_of w)) versions.now }
+{
+    let place = older_versions(chosen, versions);
+    alone(versions.len(), place, is_chosen_at(chosen, versions, place))
+}
+
+/// How many versions are older.
+fn older_versions(chosen: &Version, versions: &[Version]) -> usize
+    requires { AreRising versions.now }
+    ensures few { result ≤ length versions.now }
+    ensures place { IsPartitionPoint (λ w. is_lt (precedence (parts_of w) (parts_of chosen.now)) ≡ true)
+        (λ w. is_lt (precedence (parts_of w) (parts_of chosen.now)) ≡ false) versions.now result }
+{
+    versions.partition_point(|other| is_older(other, chosen))
+}
+
+fn is_older(version: &Version, other: &Version) -> bool
+    ensures { result ≡ is_lt (precedence (parts_of version.now) (parts_of other.now)) }
+{
+    version.cmp_precedence(other).is_lt()
+}
+
+fn is_chosen_at(chosen: &Version, versions: &[Version], place: usize) -> bool
+    ensures { result ≡ has (map (λ w. is_chosen (parts_of chosen.now) (parts_of w)) versions.now) place }
+{
+    match versions.get(place) {
+        Some(other) => is_chosen(chosen, other),
+        None => false,
+    }
+}
+
+/// The state at a place after absent alone, if what is sought stands there, else no state.
+fn alone(places: usize, place: usize, is_there: bool) -> Tests
+    requires many { places < 2 ^ 63 }
+    requires few { place ≤ places }
+    ensures { states_view result ≡ (if is_there then only (places + 1) (place + 1) else none (places + 1)) }
+{
+    let states = places + 1;
+    if is_there {
+        Tests::One {
+            states,
+            state: place + 1,
+        }
+    } else {
+        Tests::One {
+            states,
+            state: states,
+        }
+    }
 }

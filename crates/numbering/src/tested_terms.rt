@@ -12,14 +12,14 @@ ghost use Rattle.refutations.specs.Causes as causes;
 ghost use Rattle.refutations.specs.Causes.{dependency_at, feature_holds, terms_of_cause};
 ghost use Rattle.named_terms.specs.CauseViews.{cause_view};
 ghost use Rattle.numbering.specs.KnownProblem.{problem};
-ghost use Rattle.numbering.specs.TestedTerms.{tested, tested_view, tested_views, all_tested};
+ghost use Rattle.numbering.specs.TestedTerms.{states_view, tested, tested_view, tested_views, all_tested};
 ghost use Rattle.vertices.specs.RefViews.{owner_ref_view, vertex_ref_view};
 
 use crate::known_problem::KnownProblem;
 use crate::lookups::dependency_at;
-use crate::possible_classes::{classes_at, classes_of};
+use crate::possible_classes::{absent_alone, class_alone};
 use crate::space_tests::{
-    chosen_tests, class_tests, lacking_tests, left_tests, no_class, taken_tests,
+    Tests, chosen_tests, class_tests, lacking_tests, left_tests, no_class, taken_tests,
 };
 use catalogue::catalogues_are_well_formed;
 use classes::Class;
@@ -30,11 +30,11 @@ use semver::Version;
 use std::alloc::{AllocError, Global};
 use vertices::{OwnerRef, VertexRef};
 
-/// A term: a vertex, and for each of its states, in their order, whether the term has it.
+/// A term: a vertex, and which of its states the term has.
 #[derive(Drop)]
 pub(crate) struct TestedTerm<'a> {
     pub(crate) vertex: VertexRef<'a>,
-    pub(crate) tests: Vec<bool>,
+    pub(crate) tests: Tests,
 }
 
 /// The terms of the instance.
@@ -47,7 +47,7 @@ pub(crate) fn terms_tested<'a>(
         ≡ all_tested (problem known.now) (terms_of_cause (problem known.now) (cause_view cause.now))) }
 {
     match *cause {
-        Cause::Root => Ok(vec![in alloc; two_states(alloc, VertexRef::Root, false)?]?),
+        Cause::Root => Ok(vec![in alloc; two_states(VertexRef::Root, false)]?),
         Cause::Need(owner, number) => need_terms(alloc, known, owner, number),
         Cause::Target(owner, number, class) => target_terms(alloc, known, owner, number, class),
         Cause::Feature(name, class, feature) => feature_terms(alloc, known, name, class, feature),
@@ -74,22 +74,19 @@ pub(crate) fn terms_tested<'a>(
 }
 
 /// A vertex that may be absent or present: it is the one of them.
-fn two_states(
-    alloc: Global,
-    vertex: VertexRef<'_>,
-    present: bool,
-) -> Result<TestedTerm<'_>, AllocError>
-    ensures { IfOk result (λ p. tested_view p ≡ (vertex_ref_view vertex.entry, not present ∷ present ∷ [])) }
+fn two_states(vertex: VertexRef<'_>, present: bool) -> TestedTerm<'_>
+    ensures { tested_view result ≡ (vertex_ref_view vertex.entry, not present ∷ present ∷ []) }
 {
-    let mut tests = Vec::with_capacity(alloc, 2)?;
-    tests.push(!present)?;
-    tests.push(present)?;
-    Ok(TestedTerm { vertex, tests })
+    let tests = Tests::One {
+        states: 2,
+        state: present as usize,
+    };
+    TestedTerm { vertex, tests }
 }
 
 /// The versions of the package in the class that pass, and absent first.
-fn package_term<'a>(name: &'a PackageName, class: Class, tests: Vec<bool>) -> TestedTerm<'a>
-    ensures { tested_view result ≡ (model.pkg name.entry.now (class_view class), tests.items) }
+fn package_term<'a>(name: &'a PackageName, class: Class, tests: Tests) -> TestedTerm<'a>
+    ensures { tested_view result ≡ (model.pkg name.entry.now (class_view class), states_view tests) }
 {
     TestedTerm {
         vertex: VertexRef::Package(name, class),
@@ -97,70 +94,65 @@ fn package_term<'a>(name: &'a PackageName, class: Class, tests: Vec<bool>) -> Te
     }
 }
 
+fn dependency_term(owner: OwnerRef<'_>, number: usize, tests: Tests) -> TestedTerm<'_>
+    ensures { tested_view result ≡ (model.dep (owner_ref_view owner.entry) number, states_view tests) }
+{
+    TestedTerm {
+        vertex: VertexRef::Dependency(owner, number),
+        tests,
+    }
+}
+
 /// The owner counts.
-fn holds<'a>(
-    alloc: Global,
-    known: &KnownProblem<'a>,
-    owner: OwnerRef<'a>,
-) -> Result<TestedTerm<'a>, AllocError>
-    ensures { IfOk result
-        (λ p. tested_view p ≡ tested (problem known.now) (owner_holds (owner_ref_view owner.entry))) }
+fn holds<'a>(known: &KnownProblem<'a>, owner: OwnerRef<'a>) -> TestedTerm<'a>
+    ensures { tested_view result ≡ tested (problem known.now) (owner_holds (owner_ref_view owner.entry)) }
 {
     match owner {
-        OwnerRef::Root => two_states(alloc, VertexRef::Root, true),
-        OwnerRef::Version(name, version) => chosen(alloc, known, name, version),
+        OwnerRef::Root => two_states(VertexRef::Root, true),
+        OwnerRef::Version(name, version) => chosen(known, name, version),
     }
 }
 
 /// The version is chosen.
 fn chosen<'a>(
-    alloc: Global,
     known: &KnownProblem<'a>,
     name: &'a PackageName,
     version: &'a Version,
-) -> Result<TestedTerm<'a>, AllocError>
-    ensures { IfOk result (λ p. tested_view p ≡ tested (problem known.now) (at (model.pkg name.entry.now
-        (class_of (parts_of version.entry.now))) (model.version (parts_of version.entry.now) ∷ []))) }
+) -> TestedTerm<'a>
+    ensures { tested_view result ≡ tested (problem known.now) (at (model.pkg name.entry.now
+        (class_of (parts_of version.entry.now))) (model.version (parts_of version.entry.now) ∷ [])) }
 {
     let class = Class::of(version);
     let versions = class_versions(known.catalogue, name, class);
-    let tests = chosen_tests(alloc, version, versions)?;
-    Ok(package_term(name, class, tests))
+    package_term(name, class, chosen_tests(version, versions))
 }
 
 /// The feature of the version is on, or off.
 fn own_feature<'a>(
-    alloc: Global,
     name: &'a PackageName,
     version: &'a Version,
     feature: &'a FeatureName,
     on: bool,
-) -> Result<TestedTerm<'a>, AllocError>
-    ensures { IfOk result (λ p. tested_view p
-        ≡ (model.feat name.entry.now (class_of (parts_of version.entry.now)) feature.entry.now, not on ∷ on ∷ [])) }
+) -> TestedTerm<'a>
+    ensures { tested_view result
+        ≡ (model.feat name.entry.now (class_of (parts_of version.entry.now)) feature.entry.now, not on ∷ on ∷ []) }
 {
-    two_states(
-        alloc,
-        VertexRef::Feature(name, Class::of(version), feature),
-        on,
-    )
+    two_states(VertexRef::Feature(name, Class::of(version), feature), on)
 }
 
 /// The feature is off in the class.
 fn off_there<'a>(
-    alloc: Global,
     dependency: &'a DependencyParts,
     class: Class,
     feature: &'a FeatureName,
-) -> Result<TestedTerm<'a>, AllocError>
-    ensures { IfOk result (λ p. tested_view p ≡ (
+) -> TestedTerm<'a>
+    ensures { tested_view result ≡ (
       model.feat (dependency_view dependency.entry.now).real_name
           (class_view class) feature.entry.now,
       true ∷ false ∷ [],
-    )) }
+    ) }
 {
     two_states(
-        alloc,
         VertexRef::Feature(&dependency.real_name, class, feature),
         false,
     )
@@ -176,12 +168,13 @@ fn absent<'a>(
     ensures { IfOk result (λ p. tested_view p
         ≡ tested (problem known.now) (at (model.dep (owner_ref_view owner.entry) number) (model.absent ∷ []))) }
 {
-    let classes = classes_at(alloc, known, &owner, number)?;
-    let tests = no_class(alloc, classes.as_slice())?;
-    Ok(TestedTerm {
-        vertex: VertexRef::Dependency(owner, number),
-        tests,
-    })
+    match dependency_at(known, &owner, number) {
+        Some(dependency) => {
+            let tests = absent_alone(alloc, known, dependency)?;
+            Ok(dependency_term(owner, number, tests))
+        }
+        None => Ok(dependency_term(owner, number, no_class(&[]))),
+    }
 }
 
 /// The dependency, which has this number among those of its owner, leads to the class.
@@ -197,12 +190,8 @@ fn leads_to<'a>(
     ensures { IfOk result (λ p. tested_view p ≡ tested (problem known.now)
         (at (model.dep (owner_ref_view owner.entry) number) (model.in_class (class_view class) ∷ []))) }
 {
-    let classes = classes_of(alloc, known, dependency)?;
-    let tests = class_tests(alloc, class, classes.as_slice())?;
-    Ok(TestedTerm {
-        vertex: VertexRef::Dependency(owner, number),
-        tests,
-    })
+    let tests = class_alone(alloc, known, dependency, class)?;
+    Ok(dependency_term(owner, number, tests))
 }
 
 /// The dependency leads to the class.
@@ -216,12 +205,10 @@ fn leads<'a>(
     ensures { IfOk result (λ p. tested_view p ≡ tested (problem known.now)
         (at (model.dep (owner_ref_view owner.entry) number) (model.in_class (class_view class) ∷ []))) }
 {
-    let classes = classes_at(alloc, known, &owner, number)?;
-    let tests = class_tests(alloc, class, classes.as_slice())?;
-    Ok(TestedTerm {
-        vertex: VertexRef::Dependency(owner, number),
-        tests,
-    })
+    match dependency_at(known, &owner, number) {
+        Some(dependency) => leads_to(alloc, known, owner, number, dependency, class),
+        None => Ok(dependency_term(owner, number, class_tests(class, &[]))),
+    }
 }
 
 fn need_terms<'a>(
@@ -233,10 +220,7 @@ fn need_terms<'a>(
     ensures { IfOk result (λ v. tested_views v.items ≡ all_tested (problem known.now)
         (terms_of_cause (problem known.now) (causes.of_need (owner_ref_view owner.entry) number))) }
 {
-    Ok(vec![in alloc;
-        holds(alloc, known, owner)?,
-        absent(alloc, known, owner, number)?,
-    ]?)
+    Ok(vec![in alloc; holds(known, owner), absent(alloc, known, owner, number)?]?)
 }
 
 fn entry_terms<'a>(
@@ -252,9 +236,9 @@ fn entry_terms<'a>(
         (class_of (parts_of version.entry.now)) off.entry.now) (model.absent ∷ []) ∷ []))) }
 {
     Ok(vec![in alloc;
-        chosen(alloc, known, name, version)?,
-        own_feature(alloc, name, version, on, true)?,
-        own_feature(alloc, name, version, off, false)?,
+        chosen(known, name, version),
+        own_feature(name, version, on, true),
+        own_feature(name, version, off, false),
     ]?)
 }
 
@@ -271,8 +255,8 @@ fn enabling_terms<'a>(
         (parts_of version.entry.now)) number) (model.absent ∷ []) ∷ []))) }
 {
     Ok(vec![in alloc;
-        chosen(alloc, known, name, version)?,
-        own_feature(alloc, name, version, on, true)?,
+        chosen(known, name, version),
+        own_feature(name, version, on, true),
         absent(alloc, known, OwnerRef::Version(name, version), number)?,
     ]?)
 }
@@ -291,9 +275,9 @@ fn asking_terms<'a>(
         (parts_of version.entry.now) number asked.entry.now) (model.absent ∷ []) ∷ []))) }
 {
     Ok(vec![in alloc;
-        chosen(alloc, known, name, version)?,
-        own_feature(alloc, name, version, on, true)?,
-        two_states(alloc, VertexRef::Ask(name, version, number, asked), false)?,
+        chosen(known, name, version),
+        own_feature(name, version, on, true),
+        two_states(VertexRef::Ask(name, version, number, asked), false),
     ]?)
 }
 
@@ -330,7 +314,7 @@ fn left<'a>(
 {
     let versions = class_versions(known.catalogue, &dependency.real_name, class);
     let tests = left_tests(alloc, &dependency.requirement, versions)?;
-    Ok(package_term(&dependency.real_name, class, tests))
+    Ok(package_term(&dependency.real_name, class, Tests::Each(tests)))
 }
 
 /// The package has a version of the class that is matched.
@@ -348,7 +332,7 @@ fn taken<'a>(
 {
     let versions = class_versions(known.catalogue, &dependency.real_name, class);
     let tests = taken_tests(alloc, &dependency.requirement, versions)?;
-    Ok(package_term(&dependency.real_name, class, tests))
+    Ok(package_term(&dependency.real_name, class, Tests::Each(tests)))
 }
 
 /// The package is absent or has a version of the class that lacks the feature.
@@ -366,7 +350,7 @@ fn lacking<'a>(
     catalogues_are_well_formed(known.manifest, known.catalogue);
     let candidates = class_candidates(known.catalogue, name, class);
     let tests = lacking_tests(alloc, feature, candidates)?;
-    Ok(package_term(name, class, tests))
+    Ok(package_term(name, class, Tests::Each(tests)))
 }
 
 fn feature_terms<'a>(
@@ -380,7 +364,7 @@ fn feature_terms<'a>(
         (problem known.now) (causes.of_feature name.entry.now (class_view class) feature.entry.now))) }
 {
     Ok(vec![in alloc;
-        two_states(alloc, VertexRef::Feature(name, class, feature), true)?,
+        two_states(VertexRef::Feature(name, class, feature), true),
         lacking(alloc, known, name, class, feature)?,
     ]?)
 }
@@ -400,7 +384,7 @@ fn list_terms<'a>(
     match dependency_at(known, &owner, number) {
         Some(dependency) => Ok(vec![in alloc;
             leads_to(alloc, known, owner, number, dependency, class)?,
-            off_there(alloc, dependency, class, feature)?,
+            off_there(dependency, class, feature),
         ]?),
         None => Ok(Vec::new(alloc)),
     }
@@ -422,9 +406,9 @@ fn ask_terms<'a>(
     let owner = OwnerRef::Version(name, version);
     match dependency_at(known, &owner, number) {
         Some(dependency) => Ok(vec![in alloc;
-            two_states(alloc, VertexRef::Ask(name, version, number, feature), true)?,
+            two_states(VertexRef::Ask(name, version, number, feature), true),
             leads_to(alloc, known, owner, number, dependency, class)?,
-            off_there(alloc, dependency, class, feature)?,
+            off_there(dependency, class, feature),
         ]?),
         None => Ok(Vec::new(alloc)),
     }
@@ -471,10 +455,10 @@ fn weak_terms<'a>(
     match dependency_at(known, &owner, number) {
         Some(dependency) => four(
             alloc,
-            chosen(alloc, known, name, version)?,
-            own_feature(alloc, name, version, on, true)?,
+            chosen(known, name, version),
+            own_feature(name, version, on, true),
             leads_to(alloc, known, owner, number, dependency, class)?,
-            off_there(alloc, dependency, class, off)?,
+            off_there(dependency, class, off),
         ),
         None => Ok(Vec::new(alloc)),
     }

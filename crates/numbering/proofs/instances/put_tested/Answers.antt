@@ -1,4 +1,3 @@
-use Rattle.std.proofs.Common.{◌∙◌}
 use Rattle.numbering.specs.KnownProblem.{problem}
 use Rattle.numbering.specs.TestedTerms.{tested_view}
 use Rattle.vertices.specs.RefViews.{vertex_ref_view}
@@ -49,7 +48,7 @@ returns-clause-terms g c = λ ps are.
     tested_put g.S.States.tests c.args.table.now c.put.new.self c.args.terms.now.items c.push.new.self.items
     (record { vertex = c.in_ok-vertex.vertex; states = c.in_ok-states.states }) (tested_view c.args.tested_term.now) ps
     put.1 c.in_ok-push.ensures.items
-    (c.in_ok-vertex.ensures.number, c.in_ok-states.ensures ∙ c.as_slice.ensures.value) are
+    (c.in_ok-vertex.ensures.number, c.in_ok-states.ensures) are
 
 pub returns-in_err-states-clause-only : goal.returns-in_err-states-clause-only
 returns-in_err-states-clause-only g c =

@@ -11,6 +11,6 @@ returns c =
     let i = c.args.known.now in
     let v = parts_of c.args.version.now in
     c.package_term.ensures ∙ ap₂ (λ k m. (pkg c.args.name.now k, m)) c.of-class.ensures
-    (c.in_ok-tests.ensures
+    (c.chosen_tests.ensures
     ∙ chosen_at i.manifest.now i.catalogue.now c.args.name.now (class_view c.of-class.result) (class_of v) v
     c.class_versions-versions.result.now c.of-class.ensures c.class_versions-versions.ensures.versions)

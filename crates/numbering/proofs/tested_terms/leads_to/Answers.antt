@@ -1,6 +1,5 @@
-use Rattle.std.proofs.Common.{List, ◌∷◌, false, map, ap, sym, ◌∙◌}
+use Rattle.std.proofs.Common.{ap, ◌∷◌, ◌∙◌, false, map, sym}
 use Rattle.classes.specs.Classes.{class_view}
-use Rattle.classes.specs.declared.class.Class.{Class}
 use Rattle.model.specs.Vertices.{dep}
 use Rattle.refutations.specs.Listed.{classes_if}
 use Rattle.numbering.specs.KnownProblem.{problem}
@@ -11,10 +10,8 @@ use Rattle.numbering.proofs.tested_terms.leads_to.Goals as goal
 
 pub returns : goal.returns
 returns c =
-    let q = problem c.args.known.now in
     let o = owner_ref_view c.args.owner in
-    ap (λ m. (dep o c.args.number, m)) (c.in_ok-tests.ensures
-    ∙ ap (λ (ks : List Class). false
-    ∷ map (λ m. is_class (class_view c.args.class) (class_view m)) ks) c.as_slice.ensures.value
-    ∙ class_is q o c.args.number c.in_ok-classes.classes.items
-    (c.in_ok-classes.ensures ∙ ap (classes_if q) (sym c.requires)) (class_view c.args.class))
+    let k = class_view c.args.class in
+    c.dependency_term.ensures ∙ ap (λ m. (dep o c.args.number, m)) (c.in_ok-tests.ensures
+    ∙ ap (λ ks. false ∷ map (is_class k) ks) (ap (classes_if (problem c.args.known.now)) (sym c.requires))
+    ∙ class_is (problem c.args.known.now) o c.args.number k)
