@@ -167,26 +167,29 @@ def run(words, at=None, longest=600, stack=STACK, memory=None, processor=None, *
     """
     start = time.perf_counter()
     with tempfile.TemporaryFile() as out, tempfile.TemporaryFile() as err, tempfile.NamedTemporaryFile("r") as usage:
-        timed = ["/usr/bin/time", "-q", "-o", usage.name, "-f", "%U %S %M"]
+        timed = ["/usr/bin/time", "-q", "-o", usage.name, "-f", "%M"]
         timed += ["env", *[f"{name}={value}" for name, value in env.items()], *words] if env else words
         child = subprocess.Popen(timed, cwd=at, stdin=subprocess.DEVNULL, stdout=out, stderr=err,
                                  start_new_session=True, preexec_fn=limits(stack, memory, processor))
         signal.signal(signal.SIGALRM, lambda *_: os.killpg(child.pid, signal.SIGKILL))
         signal.alarm(longest)
-        status = child.wait()
+        # in finer steps than `time` tells, which adds a thousandth of a second of its own
+        _, status, spent = os.wait4(child.pid, 0)
+        status = child.returncode = os.waitstatus_to_exitcode(status)
         signal.alarm(0)
         took = time.perf_counter() - start
         texts = []
         for it in (out, err):
             it.seek(0)
             texts.append(it.read())
-        user, system, most = usage.read().split() or (0, 0, 0)
+        most = usage.read().strip() or 0
     # `time` tells a signal as a shell does
-    status = 128 - status if status > 128 else status
+    status, seconds = 128 - status if status > 128 else status, spent.ru_utime + spent.ru_stime
     if status == -signal.SIGKILL:
-        status = "ended after" if took >= longest else "killed in"
-        status = f"{status} {took:.0f} s"
-    return Ended(status, *texts, float(user) + float(system), int(most) / 1024)
+        # what was ended beside `time` isn't counted in the seconds that `time` took
+        seconds = took if took >= longest else seconds
+        status = f"{'ended after' if took >= longest else 'killed in'} {took:.0f} s"
+    return Ended(status, *texts, seconds, int(most) / 1024)
 
 
 def is_one_of(text, given):
