@@ -1,3 +1,2 @@
 pub mod GatheredViews
-pub mod Instances
 pub mod WantsFeature

@@ -3,30 +3,43 @@
 ghost use Rattle.std.specs.Prelude.{◌≡◌, IfOk};
 ghost use Rattle.catalogue.specs.Problems.{problem_in};
 ghost use Rattle.known_pairs.specs.Gathered.{is_known_feature};
-ghost use Rattle.causes.specs.NumbersViews as kept;
+ghost use Rattle.causes.specs.NumbersViews as numbered;
+ghost use Rattle.instances.specs.KeptViews as known;
 ghost use Rattle.known_pairs.specs.Pairs.{HasThose};
 ghost use Rattle.looking_up.specs.Views.{problem_view};
 
 use catalogue::Catalogue;
 use causes::Numbers;
+use classes::Class;
+use features::DependencyParts;
+use instances::Kept;
 use known_pairs::{Pairs, known_features};
 use looking_up::Problem;
 use manifest::Manifest;
 use std::alloc::{AllocError, Global};
+use vertices::OwnerRef;
 
-/// The manifest and the loaded index, with the features that are known of each name, and with the numbers that were
-/// looked for before.
+/// The manifest and the loaded index, with the features that are known of each name, and with what was found for
+/// earlier steps.
 #[derive(Drop)]
 pub struct Gathered<'a> {
     pub(crate) problem: Problem<'a>,
     pub(crate) features: Pairs<'a>,
     pub(crate) numbers: Numbers<'a>,
+    pub(crate) kept: Kept<'a>,
     ghost features_are: { HasThose features (is_known_feature (problem_view problem)) },
-    ghost numbers_are: { kept.problem_of numbers ≡ problem_view problem },
+    ghost numbers_are: { numbered.problem_of numbers ≡ problem_view problem },
+    ghost kept_are: { known.problem_of kept ≡ problem_view problem },
 }
 
 impl<'a> Gathered<'a> {
-    ghost use Rattle.axioms.specs.GatheredViews.{catalogue_of, manifest_of, problem_of};
+    ghost use Rattle.axioms.specs.GatheredViews.{problem_of};
+    ghost use Rattle.std.specs.Prelude.{IfSome};
+    ghost use Rattle.instances.specs.Keeping.{AreAll};
+    ghost use Rattle.model.specs.Vertices.{dep_classes};
+    ghost use Rattle.classes.specs.Classes.{class_view};
+    ghost use Rattle.features.specs.Views.{dependency_view};
+    ghost use Rattle.refutations.specs.Causes.{has_class};
 
     /// Gathers what is looked up for each step.
     ///
@@ -47,18 +60,44 @@ impl<'a> Gathered<'a> {
             problem,
             features: known_features(alloc, manifest, catalogue)?,
             numbers: Numbers::new(alloc, problem),
+            kept: Kept::new(alloc, problem),
         })
     }
 
-    pub fn manifest(&self) -> &'a Manifest
-        ensures { result.now ≡ manifest_of self.now }
+    /// What terms are looked up in.
+    pub fn problem(&self) -> &Problem<'a>
+        ensures { problem_view result.now ≡ problem_of self.now }
     {
-        self.problem.manifest
+        &self.problem
     }
 
-    pub fn catalogue(&self) -> &'a Catalogue
-        ensures { result.now ≡ catalogue_of self.now }
+    /// The classes to which the dependency may lead, if they are kept.
+    pub fn classes(&self, dependency: &'a DependencyParts) -> Option<&[Class]>
+        ensures { IfSome result
+            (λ ks. AreAll (dep_classes (problem_of self.now) (dependency_view dependency.now)) ks.now) }
     {
-        self.problem.catalogue
+        self.kept.classes(dependency)
+    }
+
+    /// Keeps the classes to which a dependency may lead, if they are many to find.
+    ///
+    /// # Errors
+    /// Want of memory.
+    pub fn keep_classes(
+        &mut self,
+        alloc: Global,
+        owner: OwnerRef<'a>,
+        number: usize,
+    ) -> Result<(), AllocError>
+        ensures { problem_of self.new ≡ problem_of self.old }
+    {
+        self.kept.keep_classes(alloc, owner, number)
+    }
+
+    /// Whether some candidate of the class is matched.
+    pub(crate) fn has_class(&self, class: Class, dependency: &'a DependencyParts) -> bool
+        ensures { result ≡ has_class (problem_of self.now) (class_view class) (dependency_view dependency.now) }
+    {
+        self.kept.has_class(class, dependency)
     }
 }

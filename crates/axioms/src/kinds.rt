@@ -18,7 +18,7 @@ use crate::wants_feature::{is_ask, is_list};
 use crate::weak_feature::is_weak;
 use classes::Class;
 use features::{FeatureName, PackageName};
-use looking_up::{Problem, dependency_at, entries_of, has_class, is_needed};
+use looking_up::{Problem, dependency_at, entries_of, is_needed};
 use named_terms::Cause;
 use semver::Version;
 use vertices::OwnerRef;
@@ -31,13 +31,13 @@ pub(crate) fn is_cause(gathered: &Gathered<'_>, cause: &Cause<'_>) -> bool
     match cause {
         Cause::Root => true,
         Cause::Need(owner, number) => is_need(problem, owner, *number),
-        Cause::Target(owner, number, class) => is_target(problem, owner, *number, *class),
+        Cause::Target(owner, number, class) => is_target(gathered, owner, *number, *class),
         Cause::Feature(name, class, feature) => has_feature_vertex(gathered, name, *class, feature),
         Cause::List(owner, number, class, feature) => {
-            is_list(problem, owner, *number, *class, feature)
+            is_list(gathered, owner, *number, *class, feature)
         }
         Cause::Ask(name, version, number, feature, class) => {
-            is_ask(problem, name, version, *number, feature, *class)
+            is_ask(gathered, name, version, *number, feature, *class)
         }
         Cause::Entry(name, version, on, off) => is_entry(problem, name, version, on, off),
         Cause::Enabling(name, version, on, entry, number) => {
@@ -47,10 +47,10 @@ pub(crate) fn is_cause(gathered: &Gathered<'_>, cause: &Cause<'_>) -> bool
             is_asking(problem, name, version, on, asked, *number)
         }
         Cause::Newest(owner, number, other, class, higher) => {
-            is_newest(problem, owner, *number, *other, *class, *higher)
+            is_newest(gathered, owner, *number, *other, *class, *higher)
         }
         Cause::Weak(name, version, on, off, number, class) => {
-            is_weak(problem, name, version, on, off, *number, *class)
+            is_weak(gathered, name, version, on, off, *number, *class)
         }
     }
 }
@@ -66,12 +66,12 @@ fn is_need(problem: &Problem<'_>, owner: &OwnerRef<'_>, number: usize) -> bool
 }
 
 /// `Target`: the requirement matches a version of the class.
-fn is_target(problem: &Problem<'_>, owner: &OwnerRef<'_>, number: usize, class: Class) -> bool
+fn is_target(gathered: &Gathered<'_>, owner: &OwnerRef<'_>, number: usize, class: Class) -> bool
     ensures { result
-        ≡ is_cause (problem_view problem.now) (of_target (owner_ref_view owner.now) number (class_view class)) }
+        ≡ is_cause (problem_of gathered.now) (of_target (owner_ref_view owner.now) number (class_view class)) }
 {
-    match dependency_at(problem, owner, number) {
-        Some(dependency) => has_class(problem, class, dependency),
+    match dependency_at(&gathered.problem, owner, number) {
+        Some(dependency) => gathered.has_class(class, dependency),
         None => false,
     }
 }

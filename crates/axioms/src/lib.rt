@@ -5,15 +5,13 @@
 //! in a feature, a requirement that matches some version of a class, a feature that is known of a name. A kind that
 //! takes more than a function has a file of its name; tests of entries, which several have, stand in `entries.rt`.
 //!
-//! To decide that takes no memory (`is_instance`). What may want memory comes before it and apart: the instance that
-//! terms can be of is found and spelled (`find_instance`), and what all owners ask for is gathered once for a whole
-//! check (`Gathered`, `known_pairs`).
+//! What all owners ask for is gathered once for a whole check (`Gathered`, `known_pairs`), and what requirements match
+//! and which versions lack a feature is kept there for the steps to come.
 //!
-//! A layer above may rely on this: for the instance that was found for a kind and terms, `is_instance` says exactly
-//! whether these are an instance of the kind, all ten kinds. A step costs in the order of its terms, their states and
-//! the versions of the classes that it names, times the logarithm of these. Two tests look at all versions of a
-//! package, whether a dependency has a candidate at all and whether a term has all classes that its requirement
-//! matches, and both stop at the first version that decides.
+//! A layer above may rely on this: `is_instance` says exactly whether terms are an instance of a kind, all ten kinds. A
+//! step costs in the order of its terms, their states, and the entries or the list that it names one of, times the
+//! logarithm of these. The versions of a name are gone over once for each requirement on it, or feature, that steps
+//! name.
 #![tactic(auto)]
 
 mod entries;
@@ -27,4 +25,4 @@ mod wants_feature;
 mod weak_feature;
 
 pub use gathered::Gathered;
-pub use instance::{FoundInstance, find_instance, is_instance};
+pub use instance::is_instance;

@@ -12,30 +12,32 @@ ghost use Rattle.refutations.specs.Causes.{is_cause, lists_feature, of_ask, of_l
 ghost use Rattle.refutations.specs.Causes.{same_entry, same_pair, some_entry};
 ghost use Rattle.vertices.specs.RefViews.{owner_ref_view};
 ghost use Rattle.looking_up.specs.Views.{problem_view};
+ghost use Rattle.axioms.specs.GatheredViews.{problem_of};
 ghost use Rattle.known_pairs.specs.Asking.{row_names};
 ghost use Rattle.axioms.specs.WantsFeature.{row_asks};
 
 use crate::entries::{asks_for, has_asking};
+use crate::gathered::Gathered;
 use classes::Class;
 use features::{DependencyParts, Entry, FeatureName, FeatureTable, PackageName};
-use looking_up::{Problem, brings, dependency_at, has_class};
+use looking_up::{Problem, brings, dependency_at};
 use semver::Version;
 use vertices::OwnerRef;
 
 pub(crate) fn is_list(
-    problem: &Problem<'_>,
+    gathered: &Gathered<'_>,
     owner: &OwnerRef<'_>,
     number: usize,
     class: Class,
     feature: &FeatureName,
 ) -> bool
-    ensures { result ≡ is_cause (problem_view problem.now)
+    ensures { result ≡ is_cause (problem_of gathered.now)
         (of_list (owner_ref_view owner.now) number (class_view class) feature.now) }
 {
-    match dependency_at(problem, owner, number) {
+    match dependency_at(&gathered.problem, owner, number) {
         Some(dependency) => {
-            has_class(problem, class, dependency)
-                && lists_feature(problem, owner, dependency, feature)
+            gathered.has_class(class, dependency)
+                && lists_feature(&gathered.problem, owner, dependency, feature)
         }
         None => false,
     }
@@ -120,20 +122,20 @@ fn has_named(name: &PackageName, feature: &FeatureName, entries: &[Entry]) -> bo
 }
 
 pub(crate) fn is_ask(
-    problem: &Problem<'_>,
+    gathered: &Gathered<'_>,
     name: &PackageName,
     version: &Version,
     number: usize,
     feature: &FeatureName,
     class: Class,
 ) -> bool
-    ensures { result ≡ is_cause (problem_view problem.now)
+    ensures { result ≡ is_cause (problem_of gathered.now)
         (of_ask name.now (parts_of version.now) number feature.now (class_view class)) }
 {
-    match dependency_at(problem, &OwnerRef::Version(name, version), number) {
+    match dependency_at(&gathered.problem, &OwnerRef::Version(name, version), number) {
         Some(dependency) => {
-            has_class(problem, class, dependency)
-                && some_entry_asks(problem, name, version, &dependency.name, feature)
+            gathered.has_class(class, dependency)
+                && some_entry_asks(&gathered.problem, name, version, &dependency.name, feature)
         }
         None => false,
     }

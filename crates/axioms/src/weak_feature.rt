@@ -6,17 +6,18 @@ ghost use Rattle.classes.specs.Classes.{class_view};
 ghost use Rattle.features.specs.Views.{dependency_view};
 ghost use Rattle.model.specs.Vertices.{feat, same_vertex};
 ghost use Rattle.refutations.specs.Causes.{is_cause, is_weak_on, of_weak};
-ghost use Rattle.looking_up.specs.Views.{problem_view};
+ghost use Rattle.axioms.specs.GatheredViews.{problem_of};
 
 use crate::entries::has_weak;
+use crate::gathered::Gathered;
 use classes::{Class, same_class};
 use features::{DependencyParts, FeatureName, PackageName};
-use looking_up::{Problem, dependency_at, entries_of, has_class};
+use looking_up::{dependency_at, entries_of};
 use semver::Version;
 use vertices::OwnerRef;
 
-pub(crate) fn is_weak(
-    problem: &Problem<'_>,
+pub(crate) fn is_weak<'a>(
+    gathered: &Gathered<'a>,
     name: &PackageName,
     version: &Version,
     on: &FeatureName,
@@ -24,33 +25,33 @@ pub(crate) fn is_weak(
     number: usize,
     class: Class,
 ) -> bool
-    ensures { result ≡ is_cause (problem_view problem.now)
+    ensures { result ≡ is_cause (problem_of gathered.now)
         (of_weak name.now (parts_of version.now) on.now off.now number (class_view class)) }
 {
-    match dependency_at(problem, &OwnerRef::Version(name, version), number) {
-        Some(dependency) => is_weak_on(problem, name, version, on, off, class, dependency),
+    match dependency_at(&gathered.problem, &OwnerRef::Version(name, version), number) {
+        Some(dependency) => is_weak_on(gathered, name, version, on, off, class, dependency),
         None => false,
     }
 }
 
 /// An entry `d?/g` of the feature of a version, whose two terms on features differ.
-fn is_weak_on(
-    problem: &Problem<'_>,
+fn is_weak_on<'a>(
+    gathered: &Gathered<'a>,
     name: &PackageName,
     version: &Version,
     on: &FeatureName,
     off: &FeatureName,
     class: Class,
-    dependency: &DependencyParts,
+    dependency: &'a DependencyParts,
 ) -> bool
-    ensures { result ≡ is_weak_on (problem_view problem.now) name.now (parts_of version.now) on.now off.now
+    ensures { result ≡ is_weak_on (problem_of gathered.now) name.now (parts_of version.now) on.now off.now
         (class_view class) (dependency_view dependency.now) }
 {
-    has_class(problem, class, dependency)
+    gathered.has_class(class, dependency)
         && has_weak(
             &dependency.name,
             off,
-            entries_of(problem, name, version, on),
+            entries_of(&gathered.problem, name, version, on),
         )
         && !is_same_feature(
             name,

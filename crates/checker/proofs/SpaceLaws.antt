@@ -9,8 +9,8 @@ use Rattle.model.specs.Candidates.{Record, as_candidate}
 use Rattle.model.specs.Content.{Candidate, candidates_of}
 use Rattle.model.specs.Summary.{Dependency}
 use Rattle.model.specs.Selection.{Class, class_of}
-use Rattle.model.specs.Vertices.{Owner, pkg, dep, State, absent, version, in_class, has_state, owner_brings, classes_of}
-use Rattle.model.specs.Vertices.{matching, class_candidates, dep_space}
+use Rattle.model.specs.Vertices.{Owner, pkg, dep, State, absent, version, in_class, has_state, owner_brings}
+use Rattle.model.specs.Vertices.{class_candidates, dep_classes, dep_space}
 use Rattle.manifest.specs.Manifests.{ManifestView}
 use Rattle.catalogue.specs.Problems.{problem_in}
 use Rattle.catalogue.specs.Stores.{CatalogueView, candidates_at, rows_by_name}
@@ -31,24 +31,12 @@ module _ (m : ManifestView) (c : CatalogueView) where
       ∙ ap (λ b. b && list_all (has_state ss)
       (map (λ (e : Candidate). version e.version) (class_candidates (problem_in m c) name k))) (sym here)
 
-  pub matched_all : (ss : List State) (o : Owner) (i : ℕ) (d : Dependency) (vs : List Version)
-      → map parts_of vs ≡ map (λ (r : Record). r.version) (candidates_at c d.real_name)
+  pub classes_all_in : (ss : List State) (o : Owner) (i : ℕ) (d : Dependency)
       → Some d ≡ slice_get (owner_brings (problem_in m c) o).dependencies i → has_state ss absent ≡ true
-      → list_all (λ v. has_if_matched ss d.requirement (parts_of v)) vs ≡ is_full (problem_in m c) (at (dep o i) ss)
-  unfolding has_if_matched
-  matched_all ss o i d vs same is here =
-      sym (all_map parts_of (has_if_matched ss d.requirement) vs)
-      ∙ ap (list_all (has_if_matched ss d.requirement)) same
-      ∙ all_map (λ (r : Record). r.version) (has_if_matched ss d.requirement) (candidates_at c d.real_name)
-      ∙ sym (all_map as_candidate
-      (λ (e : Candidate). has_if_matched ss d.requirement e.version) (candidates_at c d.real_name))
-      ∙ ap (list_all (λ (e : Candidate). has_if_matched ss d.requirement e.version))
-      (sym (candidates_are c d.real_name))
-      ∙ sym (all_filter (λ (e : Candidate). matches_views d.requirement e.version) (λ (e : Candidate).
-      has_state ss (in_class (class_of e.version))) (candidates_of (rows_by_name c) d.real_name))
-      ∙ sym (classes_all (λ k. has_state ss (in_class k)) (matching (problem_in m c) d))
-      ∙ sym (all_map in_class (has_state ss) (classes_of (matching (problem_in m c) d)))
-      ∙ ap (λ b. b && list_all (has_state ss) (map in_class (classes_of (matching (problem_in m c) d)))) (sym here)
+      → list_all (has_state ss) (map in_class (dep_classes (problem_in m c) d))
+      ≡ is_full (problem_in m c) (at (dep o i) ss)
+  classes_all_in ss o i d is here =
+      ap (λ b. b && list_all (has_state ss) (map in_class (dep_classes (problem_in m c) d))) (sym here)
       ∙ ap (λ x. list_all (has_state ss) (dep_space (problem_in m c) x)) is
 
   pub nothing_matched : (ss : List State) (o : Owner) (i : ℕ)

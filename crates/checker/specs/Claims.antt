@@ -4,7 +4,7 @@ use Rattle.model.specs.Content.{Problem}
 use Rattle.model.specs.Vertices.{Vertex}
 use Rattle.model.specs.Axioms.{Term}
 use Rattle.refutations.specs.Terms.{is_combination}
-use Rattle.catalogue.specs.Problems.{problem_in}
+use Rattle.axioms.specs.GatheredViews.{problem_of}
 use Rattle.derivations.specs.Tables.{TablesView, terms_at, vertex_at}
 use Rattle.checker.specs.Combinations.{fits, fits_or_said}
 use Rattle.checker.specs.Ready.{AreReady, tables_of}
@@ -21,7 +21,7 @@ pub record IsSound (c : Claim) : Type 0 where
   pub terms : AreReady c.names.now c.terms.now
 
 abbrev pub claim_problem : Claim → Problem
-claim_problem c = problem_in c.manifest.now c.catalogue.now
+claim_problem c = problem_of c.gathered.now
 
 abbrev pub claim_terms : Claim → List Term
 claim_terms c = terms_at (claim_tables c) c.terms.now

@@ -3,8 +3,7 @@ use Rattle.std.specs.Prelude.{◌≡◌, ℕ, List, ⊤}
 use Rattle.model.specs.Content.{Problem}
 use Rattle.model.specs.Axioms.{Term}
 use Rattle.vertices.specs.Kinds.{kind_view}
-use Rattle.axioms.specs.Instances.{IsFound}
-use Rattle.named_terms.specs.Views.{term_views}
+use Rattle.refutations.specs.Instances.{is_instance}
 use Rattle.derivations.specs.Tables.{TablesView, terms_at}
 use Rattle.derivations.specs.declared.step.Origin.{Origin}
 use Rattle.derivations.specs.declared.step.Origin.TheVariants.{Axiom, Combination}
@@ -12,10 +11,9 @@ use Rattle.derivations.specs.declared.step.Step.{Step}
 use Rattle.checker.specs.declared.preparing.Prepared.{Prepared}
 use Rattle.checker.specs.declared.preparing.Prepared.TheVariants as prepared
 
--- of an axiom: the terms as they are looked up, and the instance that they can be of
+-- of an axiom: whether the terms are an instance of it
 abbrev pub IsPreparedBy : Problem → List Term → Origin ℕ → Prepared → Type 0
-IsPreparedBy q ts (Axiom k) (prepared.Axiom terms instance) =
-    (term_views terms.items ≡ ts) × IsFound q (kind_view k) ts instance
+IsPreparedBy q ts (Axiom k) (prepared.Axiom is_right) = is_right ≡ is_instance q (kind_view k) ts
 IsPreparedBy q ts (Axiom k) prepared.Combination = ⊥
 IsPreparedBy q ts (Combination a b v) p = ⊤
 

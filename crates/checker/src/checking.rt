@@ -97,7 +97,7 @@ fn first_refused<'a>(
 {
     'steps: for (number, step) in steps.iter().enumerate() {
         let prepared = prepare(alloc, gathered, names, step)?;
-        if !is_step(gathered, names, &steps[..number], step, &prepared) {
+        if !is_step(gathered, names, &steps[..number], step, prepared) {
             return Ok(Check::Refused {
                 step: number as u64,
                 reason: reason_of(&step.origin),
@@ -113,24 +113,23 @@ fn is_step<'a>(
     names: &Names<'a>,
     earlier: &[Step],
     step: &Step,
-    prepared: &Prepared<'a>,
+    prepared: Prepared,
 ) -> bool
     requires earlier { AreReadySteps names.now earlier.now }
     requires step { IsReadyStep names.now step.now }
-    requires prepared { IsPrepared (problem_of gathered.now) (tables_of names.now) step.now prepared.now }
+    requires prepared { IsPrepared (problem_of gathered.now) (tables_of names.now) step.now prepared }
     ensures { result ≡ is_step (problem_of gathered.now) (steps_at (tables_of names.now) earlier.now)
         (step_at (tables_of names.now) step.now) }
 {
     match &step.origin {
-        Origin::Axiom(_) => is_axiom(gathered, prepared),
+        Origin::Axiom(_) => is_axiom(prepared),
         Origin::Combination(first, second, vertex) => {
             let (Some(a), Some(b)) = (earlier.get(*first as usize), earlier.get(*second as usize))
             else {
                 return false;
             };
             let claim = Claim {
-                manifest: gathered.manifest(),
-                catalogue: gathered.catalogue(),
+                gathered,
                 names,
                 vertex: *vertex,
                 first: &a.terms,

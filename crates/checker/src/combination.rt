@@ -12,15 +12,13 @@ ghost use Rattle.checker.specs.Ready.{IsReady, IsSetIf, tables_of};
 
 use crate::names::Names;
 use crate::space::is_full;
-use catalogue::Catalogue;
+use axioms::Gathered;
 use derivations::Term;
-use manifest::Manifest;
 
 /// That terms are the combination of two lists of terms at a vertex.
 #[derive(Drop)]
 pub(crate) struct Claim<'s, 'a> {
-    pub(crate) manifest: &'s Manifest,
-    pub(crate) catalogue: &'s Catalogue,
+    pub(crate) gathered: &'s Gathered<'a>,
     pub(crate) names: &'s Names<'a>,
     pub(crate) vertex: usize,
     pub(crate) first: &'s [Term],
@@ -128,7 +126,7 @@ impl<'s, 'a> Claim<'s, 'a> {
     {
         let (a, b) = (self.names.set(a), self.names.set(b));
         let vertex = self.names.vertex(self.vertex);
-        if is_full(self.manifest, self.catalogue, vertex, a, b) {
+        if is_full(self.gathered, vertex, a, b) {
             return said.is_none();
         }
         match said {

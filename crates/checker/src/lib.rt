@@ -8,8 +8,8 @@
 //! stand for is gathered once for all of them (`Names`): the rank of each vertex, how many texts of vertices are less
 //! than its own, and each set of states. Terms stand in the order of ranks, so a term is found by search, and two sets
 //! of one number are one set. So the decision of a combination looks at the numbers of three steps, and at the vertices
-//! of the earlier two only where the step itself says nothing (`combination.rt`). Deciding a step wants no memory; what
-//! may want it is made before (`preparing.rt`).
+//! of the earlier two only where the step itself says nothing (`combination.rt`). Deciding a combination wants no
+//! memory; what may want it is made before, and an axiom is decided then (`preparing.rt`).
 //!
 //! A layer above may rely on this: `check` says `Proves` exactly where the derivation is accepted, and then no content
 //! at all is a valid selection; else it gives the first refused step with its reason. Its one error is want of memory.

@@ -1,8 +1,9 @@
-//! What may want memory before a step is decided, and the decision of an axiom.
+//! What may want memory of a step: the decision of an axiom, and what a combination looks up.
 
 ghost use Rattle.std.specs.Prelude.{◌≡◌, List, IfOk};
 ghost use Rattle.std.specs.List.{AllByRecursion};
 ghost use Rattle.model.specs.Axioms as model;
+ghost use Rattle.model.specs.Content.{Problem};
 ghost use Rattle.refutations.specs.Instances.{is_instance};
 ghost use Rattle.vertices.specs.Kinds.{kind_view};
 ghost use Rattle.vertices.specs.declared.kind.Kind as kinds;
@@ -14,17 +15,17 @@ ghost use Rattle.checker.specs.Prepared.{IsPrepared, IsPreparedBy};
 ghost use Rattle.checker.specs.Ready.{IsReady, IsReadyStep, tables_of};
 
 use crate::names::Names;
-use axioms::{FoundInstance, Gathered, find_instance, is_instance};
+use axioms::{Gathered, is_instance};
 use derivations::{Origin, Step, Term};
 use std::alloc::{AllocError, Global};
-use vertices::Kind;
+use vertices::{Kind, Vertex};
 
 /// What the decision of a step takes.
-#[derive(Drop)]
-pub(crate) enum Prepared<'a> {
-    /// The terms as they are looked up, and the instance that they can be of.
-    Axiom(Vec<named_terms::Term<'a>>, FoundInstance<'a>),
-    /// Nothing: all is at hand.
+#[derive(Clone, Copy)]
+pub(crate) enum Prepared {
+    /// Whether the terms are those of an instance of the axiom, without full ones.
+    Axiom(bool),
+    /// All is at hand.
     Combination,
 }
 
@@ -37,14 +38,14 @@ pub(crate) fn prepare<'a>(
     gathered: &mut Gathered<'a>,
     names: &Names<'a>,
     step: &Step,
-) -> Result<Prepared<'a>, AllocError>
+) -> Result<Prepared, AllocError>
     requires { IsReadyStep names.now step.now }
     ensures prepared { IfOk result (λ p. IsPrepared (problem_of gathered.old) (tables_of names.now) step.now p) }
     ensures same { problem_of gathered.new ≡ problem_of gathered.old }
 {
     match &step.origin {
         Origin::Axiom(kind) => prepare_axiom(alloc, gathered, names, *kind, &step.terms),
-        Origin::Combination(_, _, _) => Ok(Prepared::Combination),
+        Origin::Combination(_, _, vertex) => prepare_vertex(alloc, gathered, names.vertex(*vertex)),
     }
 }
 
@@ -54,24 +55,38 @@ fn prepare_axiom<'a>(
     names: &Names<'a>,
     kind: Kind,
     terms: &[Term],
-) -> Result<Prepared<'a>, AllocError>
+) -> Result<Prepared, AllocError>
     requires { AllByRecursion (IsReady names.now) terms.now }
     ensures prepared { IfOk result (λ p.
         IsPreparedBy (problem_of gathered.old) (terms_at (tables_of names.now) terms.now) (origin.Axiom kind) p) }
     ensures same { problem_of gathered.new ≡ problem_of gathered.old }
 {
     let looked_up = terms_in(alloc, names, terms)?;
-    let instance = find_instance(alloc, gathered, kind, looked_up.as_slice())?;
-    Ok(Prepared::Axiom(looked_up, instance))
+    let is_right = is_instance(alloc, gathered, kind, looked_up.as_slice())?;
+    Ok(Prepared::Axiom(is_right))
+}
+
+/// Has the classes at hand to which a dependency may lead, if steps are combined at its vertex.
+fn prepare_vertex<'a>(
+    alloc: Global,
+    gathered: &mut Gathered<'a>,
+    vertex: &'a Vertex,
+) -> Result<Prepared, AllocError>
+    ensures same { problem_of gathered.new ≡ problem_of gathered.old }
+{
+    if let Vertex::Dependency(owner, number) = vertex {
+        gathered.keep_classes(alloc, owner.borrowed(), *number as usize)?;
+    }
+    Ok(Prepared::Combination)
 }
 
 /// Whether the terms of an axiom for which this was made are those of an instance of its kind, without full ones.
-pub(crate) fn is_axiom<'a>(gathered: &Gathered<'a>, prepared: &Prepared<'a>) -> bool
-    ensures { (k : kinds.Kind) (ts : List model.Term) → IsPreparedBy (problem_of gathered.now) ts
-        (origin.Axiom k) prepared.now → result ≡ is_instance (problem_of gathered.now) (kind_view k) ts }
+pub(crate) fn is_axiom(prepared: Prepared) -> bool
+    ensures { (q : Problem) (k : kinds.Kind) (ts : List model.Term) → IsPreparedBy q ts (origin.Axiom k) prepared
+        → result ≡ is_instance q (kind_view k) ts }
 {
     match prepared {
-        Prepared::Axiom(terms, instance) => is_instance(gathered, terms, instance),
+        Prepared::Axiom(is_right) => is_right,
         Prepared::Combination => false,
     }
 }

@@ -1,34 +1,35 @@
 //! Whether a set has all states that its vertex may have.
 
-ghost use Rattle.std.specs.Prelude.{◌≡◌, ◌++◌};
+ghost use Rattle.std.specs.Prelude.{◌≡◌, ◌++◌, map};
 ghost use Rattle.std.specs.List.{list_all};
 ghost use Rattle.semver.specs.Identifiers.{parts_of};
 ghost use Rattle.model.specs.Axioms.{at, is_full};
-ghost use Rattle.model.specs.Vertices.{has_state};
+ghost use Rattle.model.specs.Vertices.{dep_classes, has_state};
 ghost use Rattle.model.specs.Vertices as model;
-ghost use Rattle.features.specs.Views.{requirement_view};
-ghost use Rattle.catalogue.specs.Problems.{problem_in};
+ghost use Rattle.classes.specs.Classes.{class_view};
+ghost use Rattle.features.specs.Views.{dependency_view, requirement_view};
+ghost use Rattle.axioms.specs.GatheredViews.{problem_of};
+ghost use Rattle.looking_up.specs.Views.{problem_view};
 ghost use Rattle.vertices.specs.Views.{vertex_view};
 ghost use Rattle.vertices.specs.RefViews.{state_ref_view};
 ghost use Rattle.instances.specs.FullTerms.{has_if_matched};
 
-use catalogue::Catalogue;
+use axioms::Gathered;
 use classes::{Class, is_matched};
+use features::DependencyParts;
 use looking_up::{Problem, class_versions, dependency_at};
-use manifest::Manifest;
 use named_terms::StateSet;
 use semver::{Version, VersionReq};
 use vertices::{StateRef, Vertex};
 
 /// Whether two sets together have all states of a vertex.
-pub(crate) fn is_full(
-    manifest: &Manifest,
-    catalogue: &Catalogue,
+pub(crate) fn is_full<'a>(
+    gathered: &Gathered<'a>,
     vertex: &Vertex,
     a: &StateSet<'_>,
     b: &StateSet<'_>,
 ) -> bool
-    ensures { result ≡ is_full (problem_in manifest.now catalogue.now) (at (vertex_view vertex.now) (a.now ++ b.now)) }
+    ensures { result ≡ is_full (problem_of gathered.now) (at (vertex_view vertex.now) (a.now ++ b.now)) }
 {
     if !is_in_either(a, b, &StateRef::Absent) {
         return false;
@@ -37,19 +38,13 @@ pub(crate) fn is_full(
         Vertex::Root | Vertex::Feature(_, _, _) | Vertex::Ask(_, _, _, _) => {
             is_in_either(a, b, &StateRef::Present)
         }
-        Vertex::Package(name, class) => has_versions(class_versions(catalogue, name, *class), a, b),
+        Vertex::Package(name, class) => {
+            let catalogue = gathered.problem().catalogue;
+            has_versions(class_versions(catalogue, name, *class), a, b)
+        }
         Vertex::Dependency(owner, number) => {
-            let problem = Problem {
-                manifest,
-                catalogue,
-            };
-            match dependency_at(&problem, &owner.borrowed(), *number as usize) {
-                Some(dependency) => has_matching(
-                    catalogue.versions(&dependency.real_name),
-                    &dependency.requirement,
-                    a,
-                    b,
-                ),
+            match dependency_at(gathered.problem(), &owner.borrowed(), *number as usize) {
+                Some(dependency) => has_classes(gathered, dependency, a, b),
                 None => true,
             }
         }
@@ -67,6 +62,51 @@ fn has_version(version: &Version, a: &StateSet<'_>, b: &StateSet<'_>) -> bool
     ensures { result ≡ has_state (a.now ++ b.now) (model.version (parts_of version.now)) }
 {
     is_in_either(a, b, &StateRef::Version(version))
+}
+
+/// Whether two sets together have each class to which a dependency may lead.
+fn has_classes<'a>(
+    gathered: &Gathered<'a>,
+    dependency: &'a DependencyParts,
+    a: &StateSet<'_>,
+    b: &StateSet<'_>,
+) -> bool
+    ensures { result ≡ list_all (has_state (a.now ++ b.now))
+        (map model.in_class (dep_classes (problem_of gathered.now) (dependency_view dependency.now))) }
+{
+    match gathered.classes(dependency) {
+        Some(classes) => has_each(classes, a, b),
+        None => has_matched(gathered.problem(), dependency, a, b),
+    }
+}
+
+fn has_each(classes: &[Class], a: &StateSet<'_>, b: &StateSet<'_>) -> bool
+    ensures { result ≡ list_all (λ k. has_state (a.now ++ b.now) (model.in_class (class_view k))) classes.now }
+{
+    classes.iter().all(|class| has_class(*class, a, b))
+}
+
+fn has_class(class: Class, a: &StateSet<'_>, b: &StateSet<'_>) -> bool
+    ensures { result ≡ has_state (a.now ++ b.now) (model.in_class (class_view class)) }
+{
+    is_in_either(a, b, &StateRef::Class(class))
+}
+
+fn has_matched(
+    problem: &Problem<'_>,
+    dependency: &DependencyParts,
+    a: &StateSet<'_>,
+    b: &StateSet<'_>,
+) -> bool
+    ensures { result ≡ list_all (has_state (a.now ++ b.now))
+        (map model.in_class (dep_classes (problem_view problem.now) (dependency_view dependency.now))) }
+{
+    has_matching(
+        problem.catalogue.versions(&dependency.real_name),
+        &dependency.requirement,
+        a,
+        b,
+    )
 }
 
 /// Whether two sets together have the class of each version that a requirement matches.
@@ -93,7 +133,7 @@ fn has_if_matched(
 ) -> bool
     ensures { result ≡ has_if_matched (a.now ++ b.now) (requirement_view requirement.now) (parts_of version.now) }
 {
-    !is_matched(requirement, version) || is_in_either(a, b, &StateRef::Class(Class::of(version)))
+    !is_matched(requirement, version) || has_class(Class::of(version), a, b)
 }
 
 /// Whether the state is in one of two sets.

@@ -10,10 +10,12 @@ ghost use Rattle.classes.specs.Classes.{class_view};
 ghost use Rattle.semver.specs.Identifiers.{parts_of};
 ghost use Rattle.features.specs.Views.{requirement_view};
 ghost use Rattle.instances.specs.FullTerms.{has_if_matched, others};
+ghost use Rattle.instances.specs.KeptViews.{problem_of};
 ghost use Rattle.looking_up.specs.Views.{problem_view};
 ghost use Rattle.named_terms.specs.Views.{term_view, term_views};
 ghost use Rattle.vertices.specs.RefViews.{owner_ref_view, vertex_ref_view};
 
+use crate::kept::Kept;
 use classes::{Class, is_matched};
 use features::{DependencyParts, PackageName};
 use looking_up::{Problem, class_versions, dependency_at};
@@ -25,26 +27,26 @@ use vertices::{OwnerRef, StateRef, VertexRef};
 /// The terms that aren't full.
 pub(crate) fn without_full<'a>(
     alloc: Global,
-    problem: &Problem<'a>,
+    kept: &Kept<'a>,
     terms: Vec<Term<'a>>,
 ) -> Result<Vec<Term<'a>>, AllocError>
     ensures { IfOk result
-        (λ v. term_views v.items ≡ without_full (problem_view problem.now) (term_views terms.entry.items)) }
+        (λ v. term_views v.items ≡ without_full (problem_of kept.now) (term_views terms.entry.items)) }
 {
-    let mut kept = Vec::new(alloc);
+    let mut others = Vec::new(alloc);
     'terms: for term in terms {
-        if !is_full(problem, &term) {
-            kept.push(term)?;
+        if !is_full(kept, &term) {
+            others.push(term)?;
         }
     }
-    Ok(kept)
+    Ok(others)
 }
 
 /// Whether all states of the vertex are among these.
-fn is_full<'a>(problem: &Problem<'a>, term: &Term<'a>) -> bool
-    ensures { result ≡ is_full (problem_view problem.now) (term_view term.now) }
+fn is_full<'a>(kept: &Kept<'a>, term: &Term<'a>) -> bool
+    ensures { result ≡ is_full (problem_of kept.now) (term_view term.now) }
 {
-    has_absent(&term.states) && has_others(problem, &term.vertex, &term.states)
+    has_absent(&term.states) && has_others(kept, &term.vertex, &term.states)
 }
 
 fn has_absent(states: &StateSet<'_>) -> bool
@@ -60,14 +62,14 @@ fn has_present(states: &StateSet<'_>) -> bool
 }
 
 /// Whether the states have all of the vertex but `absent`.
-fn has_others<'a>(problem: &Problem<'a>, vertex: &VertexRef<'a>, states: &StateSet<'a>) -> bool
+fn has_others<'a>(kept: &Kept<'a>, vertex: &VertexRef<'a>, states: &StateSet<'a>) -> bool
     ensures { result
-        ≡ list_all (has_state states.now) (others (problem_view problem.now) (vertex_ref_view vertex.now)) }
+        ≡ list_all (has_state states.now) (others (problem_of kept.now) (vertex_ref_view vertex.now)) }
 {
     match vertex {
         VertexRef::Root => has_present(states),
-        VertexRef::Package(name, class) => has_versions(problem, name, *class, states),
-        VertexRef::Dependency(owner, number) => has_classes(problem, owner, *number, states),
+        VertexRef::Package(name, class) => has_versions(&kept.problem, name, *class, states),
+        VertexRef::Dependency(owner, number) => has_classes(kept, owner, *number, states),
         VertexRef::Feature(_, _, _) => has_present(states),
         VertexRef::Ask(_, _, _, _) => has_present(states),
     }
@@ -97,22 +99,42 @@ fn has_version(states: &StateSet<'_>, version: &Version) -> bool
     states.has(&StateRef::Version(version))
 }
 
-fn has_classes(
-    problem: &Problem<'_>,
-    owner: &OwnerRef<'_>,
+fn has_classes<'a>(
+    kept: &Kept<'a>,
+    owner: &OwnerRef<'a>,
     number: usize,
-    states: &StateSet<'_>,
+    states: &StateSet<'a>,
 ) -> bool
     ensures { result ≡ list_all (has_state states.now)
-        (others (problem_view problem.now) (model.dep (owner_ref_view owner.now) number)) }
+        (others (problem_of kept.now) (model.dep (owner_ref_view owner.now) number)) }
 {
-    match dependency_at(problem, owner, number) {
-        Some(dependency) => has_classes_of(problem, dependency, states),
+    match dependency_at(&kept.problem, owner, number) {
+        Some(dependency) => has_classes_of(kept, dependency, states),
         None => true,
     }
 }
 
-fn has_classes_of(
+fn has_classes_of<'a>(
+    kept: &Kept<'a>,
+    dependency: &'a DependencyParts,
+    states: &StateSet<'a>,
+) -> bool
+    ensures { result ≡ list_all (has_state states.now)
+        (map model.in_class (dep_classes (problem_of kept.now) (dependency_view dependency.now))) }
+{
+    match kept.classes(dependency) {
+        Some(classes) => all_classes_in(classes, states),
+        None => all_matched_in(&kept.problem, dependency, states),
+    }
+}
+
+fn all_classes_in(classes: &[Class], states: &StateSet<'_>) -> bool
+    ensures { result ≡ list_all (λ k. has_state states.now (model.in_class (class_view k))) classes.now }
+{
+    classes.iter().all(|class| has_class(states, *class))
+}
+
+fn all_matched_in(
     problem: &Problem<'_>,
     dependency: &DependencyParts,
     states: &StateSet<'_>,

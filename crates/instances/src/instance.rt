@@ -3,13 +3,14 @@
 ghost use Rattle.std.specs.Prelude.{◌≡◌, IfOk};
 ghost use Rattle.model.specs.Axioms.{without_full};
 ghost use Rattle.refutations.specs.Causes.{terms_of_cause};
-ghost use Rattle.looking_up.specs.Views.{problem_view};
+ghost use Rattle.instances.specs.KeptViews.{problem_of};
 ghost use Rattle.named_terms.specs.CauseViews.{cause_view};
 ghost use Rattle.named_terms.specs.Views.{term_views};
 
 use crate::full_terms::without_full;
+use crate::has_feature::feature_instance;
+use crate::kept::Kept;
 use crate::kinds::terms_of_cause;
-use looking_up::Problem;
 use named_terms::{Cause, Term};
 use std::alloc::{AllocError, Global};
 
@@ -19,12 +20,20 @@ use std::alloc::{AllocError, Global};
 /// Want of memory.
 pub fn instance_terms<'a>(
     alloc: Global,
-    problem: &Problem<'a>,
+    kept: &mut Kept<'a>,
     cause: &Cause<'a>,
 ) -> Result<Vec<Term<'a>>, AllocError>
-    ensures { IfOk result (λ v. term_views v.items ≡ without_full (problem_view problem.now)
-        (terms_of_cause (problem_view problem.now) (cause_view cause.now))) }
+    ensures terms { IfOk result (λ v. term_views v.items ≡ without_full (problem_of kept.old)
+        (terms_of_cause (problem_of kept.old) (cause_view cause.now))) }
+    ensures same { problem_of kept.new ≡ problem_of kept.old }
 {
-    let terms = terms_of_cause(alloc, problem, cause)?;
-    without_full(alloc, problem, terms)
+    match *cause {
+        Cause::Feature(name, class, feature) => {
+            feature_instance(alloc, kept, name, class, feature)
+        }
+        _ => {
+            let terms = terms_of_cause(alloc, kept, cause)?;
+            without_full(alloc, kept, terms)
+        }
+    }
 }

@@ -10,10 +10,12 @@ ghost use Rattle.refutations.specs.Causes as causes;
 ghost use Rattle.refutations.specs.Causes.{feature_holds, terms_of_cause};
 ghost use Rattle.vertices.specs.RefViews.{owner_ref_view};
 ghost use Rattle.looking_up.specs.Views.{problem_view};
+ghost use Rattle.instances.specs.KeptViews.{problem_of};
 ghost use Rattle.named_terms.specs.CauseViews.{cause_view};
 ghost use Rattle.named_terms.specs.Views.{term_views};
 
 use crate::has_feature::feature_terms;
+use crate::kept::Kept;
 use crate::newest_listed::newest_terms;
 use crate::target::target_terms;
 use crate::terms::{chosen, holds, led_term, off_term, on_term, term};
@@ -29,23 +31,24 @@ use vertices::{OwnerRef, StateRef, VertexRef};
 /// The terms of the instance.
 pub(crate) fn terms_of_cause<'a>(
     alloc: Global,
-    problem: &Problem<'a>,
+    kept: &mut Kept<'a>,
     cause: &Cause<'a>,
 ) -> Result<Vec<Term<'a>>, AllocError>
-    ensures { IfOk result (λ v. term_views v.items ≡ terms_of_cause (problem_view problem.now) (cause_view cause.now)) }
+    ensures terms { IfOk result
+        (λ v. term_views v.items ≡ terms_of_cause (problem_of kept.old) (cause_view cause.now)) }
+    ensures same { problem_of kept.new ≡ problem_of kept.old }
 {
+    let problem = kept.problem;
     match *cause {
         Cause::Root => Ok(vec![in alloc; term(alloc, VertexRef::Root, StateRef::Absent)?]?),
         Cause::Need(owner, number) => need_terms(alloc, owner, number),
-        Cause::Target(owner, number, class) => target_terms(alloc, problem, owner, number, class),
-        Cause::Feature(name, class, feature) => {
-            feature_terms(alloc, problem, name, class, feature)
-        }
+        Cause::Target(owner, number, class) => target_terms(alloc, kept, owner, number, class),
+        Cause::Feature(name, class, feature) => { feature_terms(alloc, kept, name, class, feature) }
         Cause::List(owner, number, class, feature) => {
-            list_terms(alloc, problem, owner, number, class, feature)
+            list_terms(alloc, &problem, owner, number, class, feature)
         }
         Cause::Ask(name, version, number, feature, class) => {
-            ask_terms(alloc, problem, name, version, number, feature, class)
+            ask_terms(alloc, &problem, name, version, number, feature, class)
         }
         Cause::Entry(name, version, on, off) => entry_terms(alloc, name, version, on, off),
         Cause::Enabling(name, version, on, _, number) => {
@@ -55,10 +58,10 @@ pub(crate) fn terms_of_cause<'a>(
             asking_terms(alloc, name, version, on, asked, number)
         }
         Cause::Newest(owner, number, other, class, higher) => {
-            newest_terms(alloc, problem, owner, number, other, class, higher)
+            newest_terms(alloc, kept, owner, number, other, class, higher)
         }
         Cause::Weak(name, version, on, off, number, class) => {
-            weak_terms(alloc, problem, name, version, on, off, number, class)
+            weak_terms(alloc, &problem, name, version, on, off, number, class)
         }
     }
 }

@@ -8,17 +8,25 @@
 //! `kinds.rt` goes through the kinds; one that takes more than a function has a file of its name, and what several have
 //! stands in `terms.rt`.
 //!
+//! Steps of few bytes may each ask what a large class has: which versions a requirement matches, or which lack a
+//! feature. So what was found of a class with more than a few versions is kept (`kept.rt`) by the name, the requirement
+//! or the feature, and the class, and only where the step itself isn't as long as the class.
+//!
 //! A layer above may rely on this: `instance_terms` gives exactly the terms of the definition (`terms_of_cause`),
 //! without the full ones, whether or not what the cause names is there.
 #![tactic(auto)]
 
+mod features_had;
 mod full_terms;
 mod has_feature;
 mod instance;
+mod kept;
 mod kinds;
+mod matched_classes;
 mod newest_listed;
 mod target;
 mod terms;
 mod wants_feature;
 
 pub use instance::instance_terms;
+pub use kept::Kept;

@@ -13,33 +13,37 @@ ghost use Rattle.looking_up.specs.Ranges.{versions_with};
 ghost use Rattle.looking_up.specs.Views.{problem_view};
 ghost use Rattle.named_terms.specs.Views.{term_view, term_views};
 ghost use Rattle.semver.specs.EvalViews.{matches_views};
+ghost use Rattle.instances.specs.KeptViews.{problem_of};
 
-use crate::terms::{led_term, package_term};
+use crate::kept::{Kept, Number};
+use crate::terms::led_term;
 use classes::{Class, is_matched};
 use features::DependencyParts;
 use looking_up::{Problem, class_versions, dependency_at};
-use named_terms::Term;
+use named_terms::{StateSet, Term};
 use semver::{Version, VersionReq};
 use std::alloc::{AllocError, Global};
-use vertices::{OwnerRef, StateRef};
+use vertices::{OwnerRef, StateRef, VertexRef};
 
 pub(crate) fn newest_terms<'a>(
     alloc: Global,
-    problem: &Problem<'a>,
+    kept: &mut Kept<'a>,
     owner: OwnerRef<'a>,
     number: usize,
     other: usize,
     class: Class,
     higher: Class,
 ) -> Result<Vec<Term<'a>>, AllocError>
-    ensures { IfOk result (λ v. term_views v.items ≡ terms_of_cause (problem_view problem.now)
+    ensures terms { IfOk result (λ v. term_views v.items ≡ terms_of_cause (problem_of kept.old)
         (causes.of_newest (owner_ref_view owner.entry) number other (class_view class) (class_view higher))) }
+    ensures same { problem_of kept.new ≡ problem_of kept.old }
 {
-    match dependency_at(problem, &owner, number) {
+    let problem = kept.problem;
+    match dependency_at(&problem, &owner, number) {
         Some(dependency) => Ok(vec![in alloc;
             led_term(alloc, owner, number, class)?,
             led_term(alloc, owner, other, higher)?,
-            taken_term(alloc, problem, dependency, higher)?,
+            taken_term(alloc, kept, dependency, higher)?,
         ]?),
         None => Ok(Vec::new(alloc)),
     }
@@ -48,18 +52,60 @@ pub(crate) fn newest_terms<'a>(
 /// The package has a version of the class that is matched.
 fn taken_term<'a>(
     alloc: Global,
-    problem: &Problem<'a>,
+    kept: &mut Kept<'a>,
     dependency: &'a DependencyParts,
     class: Class,
 ) -> Result<Term<'a>, AllocError>
-    ensures { IfOk result
+    ensures term { IfOk result
         (λ t. term_view t ≡ at (model.pkg (dependency_view dependency.entry.now).real_name (class_view class))
-        (versions_that (problem_view problem.now) (matched (dependency_view dependency.entry.now))
+        (versions_that (problem_of kept.old) (matched (dependency_view dependency.entry.now))
         (dependency_view dependency.entry.now).real_name (class_view class))) }
+    ensures same { problem_of kept.new ≡ problem_of kept.old }
+{
+    Ok(Term {
+        vertex: VertexRef::Package(&dependency.real_name, class),
+        states: taken_of(alloc, kept, class, dependency)?,
+    })
+}
+
+/// The versions of the class that are matched: those that are kept, or else they are found, and kept if they are few.
+fn taken_of<'a>(
+    alloc: Global,
+    kept: &mut Kept<'a>,
+    class: Class,
+    dependency: &'a DependencyParts,
+) -> Result<StateSet<'a>, AllocError>
+    ensures states { IfOk result (λ ss. ss ≡ versions_that (problem_of kept.old)
+        (matched (dependency_view dependency.entry.now))
+        (dependency_view dependency.entry.now).real_name (class_view class)) }
+    ensures same { problem_of kept.new ≡ problem_of kept.old }
+{
+    if let Some(states) = kept.taken(class, dependency) {
+        return states.copy(alloc);
+    }
+    let (states, number) = taken_set(alloc, &kept.problem, class, dependency)?;
+    if let Number::Few = number {
+        let copy = states.copy(alloc)?;
+        kept.put_taken(class, dependency, copy)?;
+    }
+    Ok(states)
+}
+
+/// The versions of the class that are matched; and how many of all these are.
+fn taken_set<'a>(
+    alloc: Global,
+    problem: &Problem<'a>,
+    class: Class,
+    dependency: &'a DependencyParts,
+) -> Result<(StateSet<'a>, Number), AllocError>
+    ensures { IfOk result (λ s. s.0 ≡ versions_that (problem_view problem.now)
+        (matched (dependency_view dependency.entry.now))
+        (dependency_view dependency.entry.now).real_name (class_view class)) }
 {
     let versions = class_versions(problem.catalogue, &dependency.real_name, class);
     let states = taken_states(alloc, &dependency.requirement, versions)?;
-    Ok(package_term(&dependency.real_name, class, states))
+    let number = Number::of(states.len(), versions.len());
+    Ok((StateSet::rising(states), number))
 }
 
 /// The versions that are matched.

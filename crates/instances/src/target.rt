@@ -13,30 +13,34 @@ ghost use Rattle.looking_up.specs.Ranges.{versions_with};
 ghost use Rattle.looking_up.specs.Views.{problem_view};
 ghost use Rattle.named_terms.specs.Views.{term_view, term_views};
 ghost use Rattle.looking_up.specs.Matching.{is_left};
+ghost use Rattle.instances.specs.KeptViews.{problem_of};
 
-use crate::terms::{led_term, package_term};
+use crate::kept::{Kept, Number};
+use crate::terms::led_term;
 use classes::Class;
 use features::DependencyParts;
 use looking_up::{Problem, class_versions, dependency_at, is_left};
-use named_terms::Term;
+use named_terms::{StateSet, Term};
 use semver::{Version, VersionReq};
 use std::alloc::{AllocError, Global};
-use vertices::{OwnerRef, StateRef};
+use vertices::{OwnerRef, StateRef, VertexRef};
 
 pub(crate) fn target_terms<'a>(
     alloc: Global,
-    problem: &Problem<'a>,
+    kept: &mut Kept<'a>,
     owner: OwnerRef<'a>,
     number: usize,
     class: Class,
 ) -> Result<Vec<Term<'a>>, AllocError>
-    ensures { IfOk result (λ v. term_views v.items ≡ terms_of_cause (problem_view problem.now)
+    ensures terms { IfOk result (λ v. term_views v.items ≡ terms_of_cause (problem_of kept.old)
         (causes.of_target (owner_ref_view owner.entry) number (class_view class))) }
+    ensures same { problem_of kept.new ≡ problem_of kept.old }
 {
-    match dependency_at(problem, &owner, number) {
+    let problem = kept.problem;
+    match dependency_at(&problem, &owner, number) {
         Some(dependency) => Ok(vec![in alloc;
             led_term(alloc, owner, number, class)?,
-            left_term(alloc, problem, dependency, class)?,
+            left_term(alloc, kept, dependency, class)?,
         ]?),
         None => Ok(Vec::new(alloc)),
     }
@@ -45,18 +49,61 @@ pub(crate) fn target_terms<'a>(
 /// The package is absent or has a version of the class that isn't matched.
 fn left_term<'a>(
     alloc: Global,
-    problem: &Problem<'a>,
+    kept: &mut Kept<'a>,
     dependency: &'a DependencyParts,
     class: Class,
 ) -> Result<Term<'a>, AllocError>
-    ensures { IfOk result
+    ensures term { IfOk result
         (λ t. term_view t ≡ at (model.pkg (dependency_view dependency.entry.now).real_name (class_view class))
-        (absent_or (problem_view problem.now) (λ c. not (matched (dependency_view dependency.entry.now) c))
+        (absent_or (problem_of kept.old) (λ c. not (matched (dependency_view dependency.entry.now) c))
         (dependency_view dependency.entry.now).real_name (class_view class))) }
+    ensures same { problem_of kept.new ≡ problem_of kept.old }
+{
+    Ok(Term {
+        vertex: VertexRef::Package(&dependency.real_name, class),
+        states: left_of(alloc, kept, class, dependency)?,
+    })
+}
+
+/// `absent`, and the versions of the class that aren't matched: those that are kept, or else they are found, and kept if
+/// they are few.
+fn left_of<'a>(
+    alloc: Global,
+    kept: &mut Kept<'a>,
+    class: Class,
+    dependency: &'a DependencyParts,
+) -> Result<StateSet<'a>, AllocError>
+    ensures states { IfOk result (λ ss. ss ≡ absent_or (problem_of kept.old)
+        (λ c. not (matched (dependency_view dependency.entry.now) c))
+        (dependency_view dependency.entry.now).real_name (class_view class)) }
+    ensures same { problem_of kept.new ≡ problem_of kept.old }
+{
+    if let Some(states) = kept.left(class, dependency) {
+        return states.copy(alloc);
+    }
+    let (states, number) = left_set(alloc, &kept.problem, class, dependency)?;
+    if let Number::Few = number {
+        let copy = states.copy(alloc)?;
+        kept.put_left(class, dependency, copy)?;
+    }
+    Ok(states)
+}
+
+/// `absent`, and the versions of the class that aren't matched; and how many of all these are.
+fn left_set<'a>(
+    alloc: Global,
+    problem: &Problem<'a>,
+    class: Class,
+    dependency: &'a DependencyParts,
+) -> Result<(StateSet<'a>, Number), AllocError>
+    ensures { IfOk result (λ s. s.0 ≡ absent_or (problem_view problem.now)
+        (λ c. not (matched (dependency_view dependency.entry.now) c))
+        (dependency_view dependency.entry.now).real_name (class_view class)) }
 {
     let versions = class_versions(problem.catalogue, &dependency.real_name, class);
     let states = left_states(alloc, &dependency.requirement, versions)?;
-    Ok(package_term(&dependency.real_name, class, states))
+    let number = Number::of(states.len(), versions.len());
+    Ok((StateSet::rising(states), number))
 }
 
 /// `absent`, and the versions that aren't matched.

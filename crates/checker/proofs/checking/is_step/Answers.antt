@@ -1,7 +1,6 @@
 use Rattle.std.proofs.Common.{◌∙◌, ap}
 use Rattle.refutations.specs.Terms.{is_combination}
-use Rattle.catalogue.specs.Problems.{problem_in}
-use Rattle.axioms.specs.GatheredViews.{manifest_of, problem_of}
+use Rattle.axioms.specs.GatheredViews.{problem_of}
 use Rattle.derivations.specs.Tables.{terms_at, vertex_at}
 use Rattle.checker.specs.Ready.{tables_of}
 use Rattle.checker.proofs.StepLaws.{combined_step, lent}
@@ -22,10 +21,6 @@ returns-in-Some-Some c =
     let second = lent c.args.earlier.now c.in-Combination.second c.get-in-Combination.result c.in-Some-Some.b
     c.get-in-Combination.ensures.lookup c.in-Some-Some.is-1 in
     c.holds.ensures
-    ∙ ap (λ m. is_combination (problem_in m c.catalogue.result.now) v (terms_at t said_a) (terms_at t said_b)
-    (terms_at t said)) c.manifest.ensures
-    ∙ ap (λ k. is_combination (problem_in (manifest_of c.args.gathered.now) k) v (terms_at t said_a) (terms_at t said_b)
-    (terms_at t said)) c.catalogue.ensures
     ∙ ap (λ xs. is_combination q v (terms_at t xs) (terms_at t said_b) (terms_at t said)) c.deref.ensures.value
     ∙ ap (λ xs.
     is_combination q v (terms_at t a) (terms_at t xs) (terms_at t said)) c.deref-in-Combination.ensures.value

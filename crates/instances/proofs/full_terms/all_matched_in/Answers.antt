@@ -1,7 +1,7 @@
 use Rattle.std.proofs.Common.{◌∙◌}
 use Rattle.features.specs.Views.{dependency_view}
 use Rattle.instances.proofs.Spaces.{classes_full}
-use Rattle.instances.proofs.full_terms.has_classes_of.Goals as goal
+use Rattle.instances.proofs.full_terms.all_matched_in.Goals as goal
 
 pub returns : goal.returns
 returns c =
