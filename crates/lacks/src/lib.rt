@@ -25,4 +25,4 @@ pub use index_file::{IndexFile, file_of, out_of_memory};
 pub use lack::{Lack, lack_of};
 pub use missing::{Missing, look_for};
 pub use reason::{NothingFits, nothing_fits};
-pub use sentences::{note_lack, tell_lacks};
+pub use sentences::{LackTold, note_lack, tell_lacks};

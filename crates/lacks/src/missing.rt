@@ -5,7 +5,7 @@ use crate::lack::{Lack, lack_of};
 use crate::slips::other_name;
 use catalogue::Catalogue;
 use features::{DependencyParts, PackageName};
-use index_reader::{Folder, FolderFault, Record};
+use index_reader::{Folder, FolderFault, Record, Skip};
 use std::alloc::Global;
 
 /// Why nothing fits a dependency, and what an index has of its name.
@@ -26,11 +26,11 @@ impl Missing {
         }
     }
 
-    /// How many of its lines can't be used.
-    pub(crate) fn skipped(&self) -> usize {
+    /// Its lines that can't be used.
+    pub(crate) fn skips(&self) -> &[Skip] {
         match &self.file {
-            Some(file) => file.skips.len(),
-            None => 0,
+            Some(file) => file.skips.as_slice(),
+            None => &[],
         }
     }
 }

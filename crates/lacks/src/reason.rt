@@ -5,7 +5,7 @@ use crate::missing::Missing;
 use crate::similar::{newest_table, similar_feature};
 use catalogue::Catalogue;
 use features::{DependencyParts, FeatureName, FeatureTable, PackageName};
-use index_reader::Record;
+use index_reader::{Record, Skip};
 use semver::{Version, VersionReq};
 use std::alloc::{AllocError, Global};
 use std::cmp::Ordering;
@@ -24,8 +24,13 @@ pub struct NothingFits<'a> {
     pub similar: Option<&'a FeatureName>,
     /// Where there is none of nearly the same name, all features of the newest version that fits.
     pub offered: Option<&'a FeatureTable>,
-    /// How many lines of its file can't be used.
-    pub skipped: usize,
+    /// How many versions are yanked and would fit.
+    pub yanked: usize,
+    /// The newest version that isn't yanked, and of those that is a release the newest.
+    pub usable: Option<&'a Version>,
+    pub release: Option<&'a Version>,
+    /// The lines of its file that can't be used.
+    pub skips: &'a [Skip],
 }
 
 /// What is told of a dependency for which nothing fits, by what the index has of it.
@@ -64,7 +69,10 @@ pub fn nothing_fits<'a>(
         other: missing.other.as_ref(),
         similar,
         offered,
-        skipped: missing.skipped(),
+        yanked: yanked_in(requirement, missing.records()),
+        usable: newest_usable(catalogue, name, false),
+        release: newest_usable(catalogue, name, true),
+        skips: missing.skips(),
     })
 }
 
@@ -88,6 +96,37 @@ fn is_meant(requirement: &VersionReq, record: &Record, yanked: bool) -> bool {
         is_yanked(requirement, record)
     } else {
         is_held_back(requirement, &record.version)
+    }
+}
+
+/// How many lines are yanked and a requirement matches them.
+fn yanked_in(requirement: &VersionReq, records: &[Record]) -> usize {
+    records
+        .iter()
+        .filter(|record| is_yanked(requirement, *record))
+        .count()
+}
+
+/// The newest candidate of a name that isn't yanked, and is a release if that is asked.
+fn newest_usable<'a>(
+    catalogue: &'a Catalogue,
+    name: &PackageName,
+    is_release: bool,
+) -> Option<&'a Version> {
+    let mut newest = None;
+    for (place, version) in catalogue.versions(name).iter().enumerate() {
+        if is_usable(catalogue, name, place) && (!is_release || version.pre.is_empty()) {
+            newest = Some(version);
+        }
+    }
+    newest
+}
+
+/// Whether the candidate at a place isn't yanked, as one that is locked may be.
+fn is_usable(catalogue: &Catalogue, name: &PackageName, place: usize) -> bool {
+    match catalogue.candidates(name).get(place) {
+        Some(candidate) => !candidate.yanked,
+        None => false,
     }
 }
 

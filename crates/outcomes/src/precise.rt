@@ -187,7 +187,16 @@ fn refused<P: Folder>(
     let (name, version) = (&precise.name, &precise.version);
     let rest = &precise.rest;
     let form = said.form();
-    let why = refusal_in(alloc, pinned, rest, derivation, text, form, wish.all)?;
+    let why = refusal_in(
+        alloc,
+        pinned,
+        paths.manifest,
+        rest,
+        derivation,
+        text,
+        form,
+        wish.all,
+    )?;
     let there = format!(in alloc; " where {name} is {version}")?;
     Ok(no_lock(alloc, paths, there.as_str(), why.as_str(), said)?)
 }

@@ -124,6 +124,7 @@ fn unsolvable<F: Folder>(
     let why = refusal_in(
         alloc,
         folder,
+        paths.manifest,
         bytes,
         derivation,
         text,

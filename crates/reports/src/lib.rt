@@ -20,7 +20,7 @@ mod whole_index;
 pub use by_cargo::refused_by_cargo;
 pub use lost::{lost_between, lost_version};
 pub use part::{Meant, Part, meant_by, part_in};
-pub use refusing::refusal_of;
+pub use refusing::{lacks_told, refusal_of};
 pub use reporting::{Inputs, changes_to, loaded, unless_failed};
 pub use verifying::{flaws_of_lock, loaded_beside, yanked_in};
 pub use wanted::{Wanted, package_in};

@@ -9,7 +9,7 @@ use catalogue::{Catalogue, LoadFault};
 use checker::{Check, check};
 use derivations::Derivation;
 use index_reader::{Folder, FolderFault};
-use lacks::{note_lack, out_of_memory, tell_lacks};
+use lacks::{LackTold, note_lack, out_of_memory, tell_lacks};
 use looking_up::Problem;
 use manifest::Manifest;
 use std::alloc::{AllocError, Global};
@@ -18,8 +18,22 @@ use telling::{tell, unmatched_in};
 /// Of how many names it is told at most why nothing fits.
 const MOST_NOTES: usize = 10;
 
-/// Why there is no lock: the dependencies of the manifest for which nothing fits; where there is none, what the
-/// derivation says, if the checker accepts it.
+/// The dependencies of the manifest for which nothing fits, each with its sentence; none where the folder fails.
+pub fn lacks_told<'a, F: Folder>(
+    alloc: Global,
+    folder: &mut F,
+    catalogue: &Catalogue,
+    inputs: &'a Inputs,
+) -> Result<Vec<LackTold<'a>>, LoadFault> {
+    match tell_lacks(alloc, &inputs.manifest, catalogue, folder) {
+        Ok(told) => Ok(told),
+        Err(FolderFault::OutOfMemory) => Err(LoadFault::OutOfMemory),
+        Err(FolderFault::Failed) => Ok(Vec::new(alloc)),
+    }
+}
+
+/// Why there is no lock though something fits each dependency of the manifest: what the derivation says, if the checker
+/// accepts it.
 pub fn refusal_of<F: Folder>(
     alloc: Global,
     folder: &mut F,
@@ -28,11 +42,6 @@ pub fn refusal_of<F: Folder>(
     derivation: &Derivation,
     all: bool,
 ) -> Result<Option<String>, LoadFault> {
-    let lacks = tell_lacks(alloc, &inputs.manifest, catalogue, folder);
-    let lacks = unless_failed(alloc, lacks)?;
-    if !lacks.is_empty() {
-        return Ok(Some(lacks));
-    }
     let Some(mut text) = told(alloc, &inputs.manifest, catalogue, derivation, all)? else {
         return Ok(None);
     };

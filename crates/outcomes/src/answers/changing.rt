@@ -2,12 +2,14 @@
 
 use crate::answers::asking::inputs_in;
 use crate::answers::form::Form;
-use catalogue::Prefer;
+use catalogue::{Catalogue, Prefer};
 use derivations::Derivation;
 use index_reader::Folder;
+use manifest_faults::dependency_lines;
 use project_files::Bytes;
+use reports::{Inputs, lacks_told};
 use resolver::Fault;
-use std::alloc::Global;
+use std::alloc::{AllocError, Global};
 
 /// A lock that `resolve` gives.
 #[derive(Clone, Copy)]
@@ -48,11 +50,12 @@ pub(crate) fn changes_in<F: Folder>(
     Ok(text)
 }
 
-/// Why there is no lock: the dependencies of the manifest for which nothing fits, or else what the derivation says, in
-/// sentences if it can be told so, or in its own text.
+/// Why there is no lock: the dependencies of the manifest, which is at a path, for which nothing fits, or else what the
+/// derivation says, in sentences if it can be told so, or in its own text.
 pub(crate) fn refusal_in<F: Folder>(
     alloc: Global,
     folder: &mut F,
+    path: &str,
     bytes: &Bytes,
     derivation: &Derivation,
     text: &str,
@@ -61,11 +64,12 @@ pub(crate) fn refusal_in<F: Folder>(
 ) -> Result<String, Fault> {
     let inputs = inputs_in(alloc, bytes)?;
     let catalogue = reports::loaded(alloc, folder, &inputs)?;
-    if form == Form::Programs {
-        let lacks = messages::lacks_of(alloc, folder, &catalogue, &inputs)?;
-        if !lacks.is_empty() {
-            return Ok(lacks);
-        }
+    let lacks = match form {
+        Form::People => lacks_in(alloc, folder, path, bytes, &catalogue, &inputs)?,
+        Form::Programs => messages::lacks_of(alloc, folder, &catalogue, &inputs)?,
+    };
+    if !lacks.is_empty() {
+        return Ok(lacks);
     }
     let why = match reports::refusal_of(alloc, folder, &catalogue, &inputs, derivation, all)? {
         Some(told) => told,
@@ -74,6 +78,41 @@ pub(crate) fn refusal_in<F: Folder>(
     match form {
         Form::People => Ok(why),
         Form::Programs => Ok(messages::refusal(alloc, why.as_str())?),
+    }
+}
+
+/// The dependencies for which nothing fits, each behind its place: `Cargo.toml line 6: demo needs ..`.
+fn lacks_in<F: Folder>(
+    alloc: Global,
+    folder: &mut F,
+    path: &str,
+    bytes: &Bytes,
+    catalogue: &Catalogue,
+    inputs: &Inputs,
+) -> Result<String, Fault> {
+    let lacks = lacks_told(alloc, folder, catalogue, inputs)?;
+    let mut asked = Vec::new(alloc);
+    for lack in lacks.iter() {
+        asked.push((lack.number, lack.dependency.name.as_str()))?;
+    }
+    let lines = dependency_lines(alloc, &bytes.manifest, &asked)?;
+    let mut text = String::new(alloc);
+    for (place, lack) in lacks.iter().enumerate() {
+        push_place(&mut text, path, lines.get(place))?;
+        text.push_str(lack.text.as_str())?;
+    }
+    Ok(text)
+}
+
+/// `Cargo.toml line 6: `, where the line is known.
+fn push_place(
+    text: &mut String,
+    path: &str,
+    line: Option<&Option<usize>>,
+) -> Result<(), AllocError> {
+    match line {
+        Some(Some(line)) => write!(text, "{path} line {line}: "),
+        _ => Ok(()),
     }
 }
 
