@@ -183,10 +183,15 @@ pub(crate) fn locked<F: Folder>(
     if !lock.kept && is_of_old_format(alloc, bytes)? {
         said.advice("the lock becomes one of format 4, which Cargo reads from 1.78 on")?;
     }
-    let is_refused = !lock.kept && warn_of_refused(alloc, folder, lock.bytes, said)?;
+    let is_refused = !lock.kept && warn_of_refused(alloc, folder, from, lock.bytes, said)?;
     let outcome = with_new_lock(alloc, path, bytes.lock.is_some(), lock, wish, said)?;
     if !lock.kept && !wish.locked && !wish.write && !wish.is_member {
-        advise_to_write(alloc, path, is_refused, said)?;
+        let text = format!(in alloc; "nothing is written; `--write` writes this to {path}")?;
+        if is_refused {
+            said.note(text.as_str())?;
+        } else {
+            said.advice(text.as_str())?;
+        }
     }
     Ok(outcome)
 }
@@ -241,22 +246,6 @@ fn with_new_lock(
         return Ok(Outcome::with_lock(copied(alloc, lock.bytes)?));
     }
     Ok(Outcome::yes())
-}
-
-/// That nothing is written, and what would write it.
-fn advise_to_write(
-    alloc: Global,
-    path: &str,
-    is_refused: bool,
-    said: &mut Said,
-) -> Result<(), AllocError> {
-    let but = if is_refused {
-        ", but Cargo refuses it"
-    } else {
-        ""
-    };
-    let text = format!(in alloc; "nothing is written; `--write` writes this to {path}{but}")?;
-    said.advice(text.as_str())
 }
 
 fn copied(alloc: Global, bytes: &[u8]) -> Result<Vec<u8>, AllocError>

@@ -70,6 +70,11 @@ impl Said {
         Ok(())
     }
 
+    /// What Cargo refuses though it is no error here, to people, with the lines below it; where errors alone are told too.
+    pub(crate) fn refused(&mut self, message: &str, below: &str) -> Result<(), AllocError> {
+        write!(self.err, "warning: {message}\n{below}")
+    }
+
     /// A fault, as an error or as what the run goes on after.
     pub(crate) fn fault(&mut self, fault: &Fault, severity: Severity) -> Result<(), AllocError> {
         let sentence = Sentence(fault);

@@ -1,12 +1,14 @@
 //! What `verify` ends with.
 
-use crate::answers::{flaws_in, lock_in, verdict_in, verdict_on};
+use crate::answers::{Form, flaws_in, inputs_in, lock_in, verdict_in, verdict_on};
 use crate::outcome::Outcome;
 use crate::said::Said;
 use catalogue::Catalogue;
 use index_reader::Folder;
 use messages::Severity;
+use lockfile::LockContent;
 use project_files::{Bytes, Paths};
+use reports::{Beside, Refused, loaded, refused_by_cargo, refused_kind, refused_lines, refused_sentence};
 use resolver::Fault;
 use selection::Verdict;
 use std::alloc::{AllocError, Global};
@@ -42,7 +44,7 @@ fn judged<F: Folder>(
     let text = verdict_in(alloc, verdict, said.form())?;
     if matches!(verdict, Verdict::Valid) {
         said.answer(text.as_str())?;
-        warn_of_valid(alloc, folder, index, lock_in(bytes), said)?;
+        warn_of_valid(alloc, folder, index, bytes, said)?;
         return Ok(Outcome::yes());
     }
     let flaws = flaws_in(alloc, folder, bytes, said.form())?;
@@ -60,14 +62,14 @@ fn warn_of_valid<F: Folder>(
     alloc: Global,
     folder: &mut F,
     index: &Catalogue,
-    lock: &[u8],
+    bytes: &Bytes,
     said: &mut Said,
 ) -> Result<(), Fault> {
-    let content = lockfile::read(alloc, lock)?;
+    let content = lockfile::read(alloc, lock_in(bytes))?;
     for sentence in reports::yanked_in(alloc, index, &content)?.iter() {
         said.warning("yanked", sentence.as_str())?;
     }
-    warn_of_refused(alloc, folder, lock, said)?;
+    warn_of_refused(alloc, folder, bytes, lock_in(bytes), said)?;
     Ok(())
 }
 
@@ -75,15 +77,61 @@ fn warn_of_valid<F: Folder>(
 pub(crate) fn warn_of_refused<F: Folder>(
     alloc: Global,
     folder: &mut F,
+    bytes: &Bytes,
     lock: &[u8],
     said: &mut Said,
 ) -> Result<bool, Fault> {
     let lock = lockfile::read(alloc, lock)?;
-    let sentences = reports::refused_by_cargo(alloc, folder, &lock)?;
-    for sentence in sentences.iter() {
+    let refused = refused_by_cargo(alloc, folder, &lock)?;
+    if refused.is_empty() {
+        return Ok(false);
+    }
+    match said.form() {
+        Form::People => tell_refused(alloc, folder, bytes, &lock, &refused, said)?,
+        Form::Programs => message_refused(alloc, &lock, &refused, said)?,
+    }
+    Ok(true)
+}
+
+/// What Cargo refuses, each with what leads there, also where errors alone are told.
+fn tell_refused<F: Folder>(
+    alloc: Global,
+    folder: &mut F,
+    bytes: &Bytes,
+    lock: &LockContent,
+    refused: &[Refused],
+    said: &mut Said,
+) -> Result<(), Fault> {
+    let inputs = inputs_in(alloc, bytes)?;
+    let catalogue = loaded(alloc, folder, &inputs)?;
+    let beside = Beside {
+        manifest: &inputs.manifest,
+        catalogue: &catalogue,
+        lock,
+    };
+    for one in refused.iter() {
+        let kind = refused_kind(alloc, one)?;
+        let lines = refused_lines(alloc, beside, one)?;
+        said.refused(kind.as_str(), lines.as_str())?;
+        if matches!(one, Refused::Links(_, _, _)) {
+            said.note("one of the two has to go")?;
+        }
+    }
+    said.note("the lock is valid, hence status 0, but Cargo refuses it")?;
+    Ok(())
+}
+
+fn message_refused(
+    alloc: Global,
+    lock: &LockContent,
+    refused: &[Refused],
+    said: &mut Said,
+) -> Result<(), AllocError> {
+    for one in refused.iter() {
+        let sentence = refused_sentence(alloc, lock.packages(), one)?;
         said.warning("refused-by-cargo", sentence.as_str())?;
     }
-    Ok(!sentences.is_empty())
+    Ok(())
 }
 
 /// Where errors alone are told, that a lock isn't valid is one.

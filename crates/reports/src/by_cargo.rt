@@ -4,6 +4,7 @@
 //! Packages whose lists lead nowhere are taken away, then those that list such alone, and so on: what is left leads
 //! round, and from each of these some step stays among them, so that many steps end in a cycle.
 
+use crate::refused::Refused;
 use features::PackageName;
 use index_reader::{Folder, FolderFault, index_path};
 use lacks::out_of_memory;
@@ -14,39 +15,22 @@ use std::collections::BTreeMap;
 use std::str::from_utf8;
 use trees::{Scratch, Tree, TreeFault, as_text, member, read_text, root};
 
-/// A sentence for a cycle of packages, if there is one, and for each package that links to the library of another. Of
-/// the libraries nothing is told where the folder fails.
+/// A cycle of packages, if there is one, and each package that links to the library of another. Of the libraries nothing
+/// is found where the folder fails.
 pub fn refused_by_cargo<F: Folder>(
     alloc: Global,
     folder: &mut F,
     lock: &LockContent,
-) -> Result<Vec<String>, AllocError> {
+) -> Result<Vec<Refused>, AllocError> {
     let packages = lock.packages();
-    let mut sentences = Vec::new(alloc);
+    let mut refused = Vec::new(alloc);
     if let Some(cycle) = cycle_in(alloc, packages)? {
-        sentences.push(cycle_sentence(alloc, packages, &cycle)?)?;
+        refused.push(Refused::Cycle(cycle))?;
     }
-    match push_links(alloc, folder, packages, &mut sentences) {
-        Ok(()) | Err(FolderFault::Failed) => Ok(sentences),
+    match push_links(alloc, folder, packages, &mut refused) {
+        Ok(()) | Err(FolderFault::Failed) => Ok(refused),
         Err(FolderFault::OutOfMemory) => Err(AllocError),
     }
-}
-
-/// `Cargo refuses a cycle of packages: a 1.0.0 needs b 1.0.0 needs a 1.0.0`.
-fn cycle_sentence(
-    alloc: Global,
-    packages: &[Package],
-    cycle: &[usize],
-) -> Result<String, AllocError> {
-    let mut text = String::from_str(alloc, "Cargo refuses a cycle of packages: ")?;
-    for place in cycle.iter().chain(cycle.first()) {
-        if let Some(package) = packages.get(*place) {
-            let Package { name, version, .. } = package;
-            let lead = if text.ends_with(": ") { "" } else { " needs " };
-            write!(text, "{lead}{name} {version}")?;
-        }
-    }
-    Ok(text)
 }
 
 /// The places of the packages of a cycle, in the order of its lists, if there is one.
@@ -142,23 +126,20 @@ fn list_at(listers: &mut [Vec<usize>], package: &Package, place: usize) -> Resul
     Ok(())
 }
 
-/// Adds a sentence for each package that links to the library of one before it.
+/// Adds each package that links to the library of one before it.
 fn push_links<F: Folder>(
     alloc: Global,
     folder: &mut F,
     packages: &[Package],
-    sentences: &mut Vec<String>,
+    refused: &mut Vec<Refused>,
 ) -> Result<(), FolderFault> {
     let mut scratch = Scratch::new(alloc);
     let mut linked: BTreeMap<String, usize> = BTreeMap::new(alloc);
     for (place, package) in packages.iter().enumerate() {
         if package.source().is_some() {
             if let Some(library) = library_of(alloc, folder, package, &mut scratch)? {
-                let told = match linked
-                    .get(library.as_str())
-                    .and_then(|at| packages.get(*at))
-                {
-                    Some(other) => push_both(sentences, alloc, other, package, library.as_str()),
+                let told = match linked.get(library.as_str()).copied() {
+                    Some(other) => push_both(refused, library, other, place),
                     None => insert(&mut linked, library, place),
                 };
                 told.map_err(out_of_memory)?;
@@ -177,19 +158,13 @@ fn insert(
     Ok(())
 }
 
-/// `Cargo refuses two packages with links = "z": zlib 1.0.0 and zlib-ng 1.0.0; `cargo relock why` tells what needs them`.
 fn push_both(
-    sentences: &mut Vec<String>,
-    alloc: Global,
-    one: &Package,
-    other: &Package,
-    library: &str,
+    refused: &mut Vec<Refused>,
+    library: String,
+    one: usize,
+    other: usize,
 ) -> Result<(), AllocError> {
-    let (name, version) = (&one.name, &one.version);
-    let (other_name, other_version) = (&other.name, &other.version);
-    sentences.push(format!(in alloc;
-        "Cargo refuses two packages with links = \"{library}\": {name} {version} and {other_name} {other_version}; `cargo relock why` tells what needs them"
-    )?)?;
+    refused.push(Refused::Links(library, one, other))?;
     Ok(())
 }
 

@@ -10,6 +10,7 @@
 mod by_cargo;
 mod lost;
 mod part;
+mod refused;
 mod refusing;
 mod reporting;
 mod verifying;
@@ -20,6 +21,7 @@ mod whole_index;
 pub use by_cargo::refused_by_cargo;
 pub use lost::{lost_between, lost_version};
 pub use part::{Meant, Part, meant_by, part_in};
+pub use refused::{Beside, Refused, refused_kind, refused_lines, refused_sentence};
 pub use refusing::{lacks_told, refusal_of};
 pub use reporting::{Inputs, changes_to, loaded, unless_failed};
 pub use verifying::{flaws_of_lock, loaded_beside, yanked_in};
