@@ -4,7 +4,7 @@ use crate::failure::Failure;
 use features::PackageName;
 use index_reader::{DiskFolder, index_path};
 use outcomes::{
-    Outcome, Pinned, Question, Said, Wish, has_workspace, precise_in, precise_told, question_in,
+    Outcome, Pinned, Question, Said, Wish, has_workspace, membership, precise_in, precise_told, question_in,
     resolve_told, skips_told, skips_told_of_all, tell_fetched, tell_read, tell_time, told_fault,
     update_told, verify_told, warn_of_none, warn_of_workspace, why_told,
 };
@@ -89,7 +89,10 @@ fn checked<'a, R: Files + AllocGlobal>(
             if wish.write {
                 return Err(Failure::Member(above.path));
             }
-            warn_of_workspace(alloc, paths.manifest, above.path.as_str(), said)?;
+            let below = above.below.as_str();
+            let found = membership(alloc, &above.bytes, below)?;
+            let path = above.path.as_str();
+            warn_of_workspace(alloc, paths.manifest, path, below, found, said)?;
             return Ok(Wish {
                 is_member: true,
                 ..wish

@@ -185,8 +185,8 @@ pub(crate) fn locked<F: Folder>(
     }
     let is_refused = !lock.kept && warn_of_refused(alloc, folder, from, lock.bytes, said)?;
     let outcome = with_new_lock(alloc, path, bytes.lock.is_some(), lock, wish, said)?;
-    if !lock.kept && !wish.locked && !wish.write && !wish.is_member {
-        let text = format!(in alloc; "nothing is written; `--write` writes this to {path}")?;
+    if !lock.kept && !wish.locked && !wish.write {
+        let text = unwritten(alloc, path, wish.is_member)?;
         if is_refused {
             said.note(text.as_str())?;
         } else {
@@ -246,6 +246,15 @@ fn with_new_lock(
         return Ok(Outcome::with_lock(copied(alloc, lock.bytes)?));
     }
     Ok(Outcome::yes())
+}
+
+/// That nothing is written, and what would write it; the lock of a member isn't its own.
+fn unwritten(alloc: Global, path: &str, is_member: bool) -> Result<String, AllocError> {
+    if is_member {
+        String::from_str(alloc, "nothing is written")
+    } else {
+        format!(in alloc; "nothing is written; `--write` writes this to {path}")
+    }
 }
 
 fn copied(alloc: Global, bytes: &[u8]) -> Result<Vec<u8>, AllocError>
