@@ -19,6 +19,7 @@ mod ways;
 mod whole_index;
 
 pub use by_cargo::refused_by_cargo;
+pub use lacks::LackTold;
 pub use lost::{lost_between, lost_version};
 pub use part::{Meant, Part, meant_by, part_in};
 pub use refused::{Beside, Refused, refused_kind, refused_lines, refused_sentence};

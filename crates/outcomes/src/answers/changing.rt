@@ -7,7 +7,7 @@ use derivations::Derivation;
 use index_reader::Folder;
 use manifest_faults::dependency_lines;
 use project_files::Bytes;
-use reports::{Inputs, lacks_told};
+use reports::{Inputs, LackTold, lacks_told};
 use resolver::Fault;
 use std::alloc::{AllocError, Global};
 
@@ -91,11 +91,20 @@ fn lacks_in<F: Folder>(
     inputs: &Inputs,
 ) -> Result<String, Fault> {
     let lacks = lacks_told(alloc, folder, catalogue, inputs)?;
+    Ok(placed(alloc, path, &bytes.manifest, &lacks)?)
+}
+
+fn placed(
+    alloc: Global,
+    path: &str,
+    manifest: &[u8],
+    lacks: &[LackTold<'_>],
+) -> Result<String, AllocError> {
     let mut asked = Vec::new(alloc);
     for lack in lacks.iter() {
         asked.push((lack.number, lack.dependency.name.as_str()))?;
     }
-    let lines = dependency_lines(alloc, &bytes.manifest, &asked)?;
+    let lines = dependency_lines(alloc, manifest, &asked)?;
     let mut text = String::new(alloc);
     for (place, lack) in lacks.iter().enumerate() {
         push_place(&mut text, path, lines.get(place))?;
