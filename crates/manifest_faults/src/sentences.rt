@@ -47,10 +47,10 @@ pub(crate) fn push_sentence(
         ),
         Why::Foreign(source) => {
             let key = key_of(source, value);
-            write!(
-                text,
-                "{place}: it has the key `{key}`, which isn't supported"
-            )
+            match value_of(value, key) {
+                "" => write!(text, "{place} has the key `{key}`"),
+                said => write!(text, "{place} has {key} = \"{said}\""),
+            }
         }
         _ => push_of_entry(text, text_in(value), culprit),
     }
@@ -102,6 +102,14 @@ fn push_reason(alloc: Global, text: &mut String, sort: Sort, word: &str) -> Resu
             Err(why) => write!(text, " ({why})"),
         },
         _ => Ok(()),
+    }
+}
+
+/// The text at a key of a dependency, or an empty one.
+fn value_of<'v>(dependency: Option<&'v Value>, key: &str) -> &'v str {
+    match dependency {
+        Some(value) => text_in(value.get(key)),
+        None => "",
     }
 }
 

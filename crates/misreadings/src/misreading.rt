@@ -9,6 +9,8 @@ use std::str::from_utf8;
 pub struct Misreading {
     /// The line, from 1; none of what is wrong with the file as a whole.
     pub line: Option<usize>,
+    /// The column on the line, from 1, where the place is known.
+    pub column: Option<usize>,
     pub why: String,
     /// The line itself, with a mark below the place; nothing where the line is all that is known.
     pub shown: String,
@@ -19,6 +21,7 @@ impl Misreading {
     pub fn new(alloc: Global, line: Option<usize>, why: String) -> Misreading {
         Misreading {
             line,
+            column: None,
             why,
             shown: String::new(alloc),
         }
@@ -26,10 +29,18 @@ impl Misreading {
 
     /// `Cargo.toml line 3: expected newline`, and a line end.
     pub fn told(&self, alloc: Global, path: &str) -> Result<String, AllocError> {
-        let Misreading { line, why, shown } = self;
-        match line {
-            Some(line) => format!(in alloc; "{path} line {line}: {why}\n{shown}"),
-            None => format!(in alloc; "{path}: {why}\n"),
+        let Misreading {
+            line,
+            column,
+            why,
+            shown,
+        } = self;
+        match (line, column) {
+            (Some(line), Some(column)) => {
+                format!(in alloc; "{path} line {line}, column {column}: {why}\n{shown}")
+            }
+            (Some(line), None) => format!(in alloc; "{path} line {line}: {why}\n{shown}"),
+            (None, _) => format!(in alloc; "{path}: {why}\n"),
         }
     }
 }
@@ -46,18 +57,25 @@ pub fn no_toml(
     let (before, after) = bytes.split_at(span.start.min(bytes.len()));
     Ok(Misreading {
         line: Some(line_after(before)),
+        column: column_after(before),
         why: String::from_str(alloc, why_of(error.message(), after))?,
         shown: shown(alloc, before, after)?,
     })
+}
+
+/// The column of what stands behind these bytes, from 1, where their last line is text.
+fn column_after(before: &[u8]) -> Option<usize> {
+    let front = before.rsplit(|byte| *byte == b'\n').next().unwrap_or(&[]);
+    Some(from_utf8(front).ok()?.chars().count().saturating_add(1))
 }
 
 /// What is wrong before the rest of a file.
 fn why_of<'a>(message: &'a str, rest: &[u8]) -> &'a str {
     let is_cut = message == "invalid string";
     match rest.trim_ascii_start().first() {
-        None if is_cut => "the file ends within this string: it may have been cut off",
+        None if is_cut => "the file ends within this string; it was probably cut off",
         _ if is_cut && rest.first() == Some(&b'\n') => {
-            "this string doesn't end on its line, expected a quote"
+            "this string has no closing quote"
         }
         _ => message,
     }

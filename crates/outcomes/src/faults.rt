@@ -1,21 +1,30 @@
 //! Why a run has no answer, in sentences.
 
-use crate::answers::{lock_in, manifest_misreading_in, misreading_in};
+use crate::answers::{Form, inputs_in, lock_in, manifest_misreading_in, misreading_in};
 use crate::outcome::Outcome;
 use crate::said::Said;
+use features::PackageName;
+use index_reader::Folder;
+use lock_faults::checksum_line;
+use manifest::Unsupported;
 use messages::Severity;
 use project_files::{Bytes, Paths};
+use reports::{Checksums, checksums_of};
 use resolver::{Fault, TooLarge};
+use semver::Version;
 use std::alloc::{AllocError, Global};
 use std::fmt;
 
 /// What can be done about a lock that doesn't read.
 const REPAIR: &str =
-    "`cargo relock resolve --repair` keeps what can be read of it, and takes the rest anew";
+    "`cargo relock resolve --repair` keeps what can be read, and resolves the rest anew";
 
-/// What can be done about a checksum that changed.
+/// How a checksum can have changed.
 const CHECKSUMS: &str =
-    "`cargo relock verify` tells both checksums; which is right nothing here can say";
+    "the lock was changed by hand, or this index isn't the one that it was made from";
+
+/// What can be done about a source that isn't supported.
+const BY_CARGO: &str = "Cargo can: `cargo generate-lockfile`";
 
 /// What a fault says, without its code.
 #[derive(Clone, Copy)]
@@ -25,16 +34,13 @@ impl fmt::Display for Sentence<'_> {
     fn fmt<W: fmt::Write>(&self, f: &mut fmt::Formatter<W>) -> fmt::Result {
         match self.0 {
             Fault::OutOfMemory => f.write_str("there isn't enough memory"),
-            Fault::ManifestNotToml => f.write_str("the manifest is no TOML"),
+            Fault::ManifestNotToml => f.write_str("the manifest isn't valid TOML"),
             Fault::ManifestShape(part) => write!(
                 f,
                 "the part `{part}` of the manifest doesn't read"
             ),
-            Fault::UnsupportedSource(kind) => {
-                write!(
-                    f,
-                    "the manifest asks for a source that isn't supported: {kind}"
-                )
+            Fault::UnsupportedSource(source) => {
+                write!(f, "`cargo relock` can't resolve {}", asked_of(*source))
             }
             Fault::BadRequirement(name) => {
                 write!(f, "the manifest's requirement of {name} doesn't read")
@@ -42,7 +48,7 @@ impl fmt::Display for Sentence<'_> {
             Fault::RootFeature(_, feature) => {
                 write!(f, "the manifest's feature {feature} can't be used")
             }
-            Fault::LockNotToml => f.write_str("the lock is no TOML"),
+            Fault::LockNotToml => f.write_str("the lock isn't valid TOML"),
             Fault::LockVersion => f.write_str("the lock is of a format that isn't read"),
             Fault::LockShape => f.write_str("the lock isn't as Cargo writes locks"),
             Fault::FolderFailed(path) => write!(f, "the index can't be read at {path}"),
@@ -53,6 +59,17 @@ impl fmt::Display for Sentence<'_> {
             ),
             Fault::NotReadBack => f.write_str("the new lock would not read as it should"),
         }
+    }
+}
+
+fn asked_of(source: Unsupported) -> &'static str {
+    match source {
+        Unsupported::Git => "a dependency from Git",
+        Unsupported::Path => "a dependency from a path",
+        Unsupported::Registry => "a dependency from another registry",
+        Unsupported::Workspace => "a workspace",
+        Unsupported::Patch => "with [patch]",
+        Unsupported::Replace => "with [replace]",
     }
 }
 
@@ -86,11 +103,66 @@ fn tell_more(
         tell_misreading(alloc, paths, bytes, said)?;
         said.note(REPAIR)
     } else if is_of_manifest(fault) {
-        tell_manifest_misreading(alloc, paths, bytes, said)
+        tell_manifest_misreading(alloc, paths, bytes, said)?;
+        tell_of_source(fault, said)
     } else if is_of_checksum(fault) {
         said.note(CHECKSUMS)
     } else {
         Ok(())
+    }
+}
+
+fn tell_of_source(fault: &Fault, said: &mut Said) -> Result<(), AllocError> {
+    match fault {
+        Fault::UnsupportedSource(_) => said.note(BY_CARGO),
+        _ => Ok(()),
+    }
+}
+
+/// That a checksum changed, with both; to programs, and where one isn't found, it is a fault as any.
+pub(crate) fn tell_checksums<F: Folder>(
+    alloc: Global,
+    folder: &mut F,
+    paths: &Paths<'_>,
+    bytes: &Bytes,
+    name: PackageName,
+    version: Version,
+    said: &mut Said,
+) -> Result<Outcome, Fault> {
+    let sums = match said.form() {
+        Form::People => {
+            let inputs = inputs_in(alloc, bytes)?;
+            checksums_of(alloc, folder, &inputs, &name, &version)?
+        }
+        Form::Programs => None,
+    };
+    let Some(sums) = sums else {
+        return Err(Fault::ChecksumChanged(name, version));
+    };
+    let lines = checksum_lines(alloc, paths, lock_in(bytes), &name, &version, &sums)?;
+    said.fault(&Fault::ChecksumChanged(name, version), Severity::Error)?;
+    said.below(lines.as_str())?;
+    said.note(CHECKSUMS)?;
+    Ok(Outcome::failed())
+}
+
+/// `Cargo.lock line 23: it is .., in this index it is ..`.
+fn checksum_lines(
+    alloc: Global,
+    paths: &Paths<'_>,
+    lock: &[u8],
+    name: &PackageName,
+    version: &Version,
+    sums: &Checksums,
+) -> Result<String, AllocError> {
+    let path = paths.lock.as_str();
+    let Checksums { locked, own } = sums;
+    let text = format!(in alloc; "{version}")?;
+    match checksum_line(lock, name.as_str(), text.as_str()) {
+        Some(line) => {
+            format!(in alloc; "{path} line {line}: it is {locked}; in this index it is {own}\n")
+        }
+        None => format!(in alloc; "{path}: it is {locked}; in this index it is {own}\n"),
     }
 }
 

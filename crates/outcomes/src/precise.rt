@@ -3,7 +3,7 @@
 //! The package gets the version, or there is no lock: the packages whose lists have it stay as they are locked, and so
 //! do those of the same names. So the answer is that of `resolve` over a folder in which these have no other versions.
 
-use crate::answers::{NewLock, found_in, inputs_in, new_lock, refusal_in, rest_without};
+use crate::answers::{Form, NewLock, found_in, inputs_in, new_lock, refusal_in, rest_without};
 use crate::outcome::Outcome;
 use crate::pinning::Pins;
 use crate::resolving::{Wish, locked, new_lock_of, no_lock, preference};
@@ -12,7 +12,7 @@ use crate::why::{NoWay, Question, no_way};
 use derivations::Derivation;
 use features::PackageName;
 use index_reader::Folder;
-use lockfile::LockContent;
+use lockfile::{LockContent, Package};
 use project_files::{Bytes, Paths};
 use reports::{Meant, Wanted};
 use resolver::{Answer, Fault};
@@ -27,6 +27,8 @@ pub struct Precise {
     pub version: Version,
     /// The files without what the lock says of it.
     rest: Bytes,
+    /// The packages whose lists have it, which stay.
+    listers: String,
 }
 
 /// A package that is to have a version, and what has to stay; or what the command ends with where no package is meant.
@@ -43,12 +45,14 @@ pub fn precise_in(
     let why = match (found_in(alloc, &inputs, question)?, &inputs.lock) {
         (Meant::One(wanted), Some(lock)) => {
             let pins = pins_of(alloc, lock, &wanted, &version)?;
+            let listers = listers_of(alloc, lock, &wanted)?;
             let rest = rest_without(alloc, bytes, &wanted)?;
             let name = wanted.name;
             let precise = Precise {
                 name,
                 version,
                 rest,
+                listers,
             };
             return Ok(Ok((precise, pins)));
         }
@@ -82,6 +86,21 @@ fn pins_of(
         }
     }
     Ok(pins)
+}
+
+/// The packages whose lists have the wanted one: `a 1.0.0, b 1.0.0`.
+fn listers_of(alloc: Global, lock: &LockContent, wanted: &Wanted) -> Result<String, AllocError> {
+    let packages = lock.packages();
+    let place = packages.iter().position(|package| wanted.is(package));
+    let mut text = String::new(alloc);
+    for package in packages.iter() {
+        if package.source().is_some() && package.list.iter().any(|listed| Some(*listed) == place) {
+            let Package { name, version, .. } = package;
+            let comma = if text.is_empty() { "" } else { ", " };
+            write!(text, "{comma}{name} {version}")?;
+        }
+    }
+    Ok(text)
 }
 
 /// What changes in the lock where a package has a version, over a folder where it has no other one.
@@ -197,8 +216,49 @@ fn refused<P: Folder>(
         form,
         wish.all,
     )?;
-    let there = format!(in alloc; " where {name} is {version}")?;
-    Ok(no_lock(alloc, paths, there.as_str(), why.as_str(), said)?)
+    if form == Form::Programs {
+        let there = format!(in alloc; " where {name} is {version}")?;
+        return Ok(no_lock(alloc, paths, there.as_str(), why.as_str(), said)?);
+    }
+    Ok(tell_refused(alloc, precise, why.as_str(), said)?)
+}
+
+/// Why the package can't have the version, and what stays as it is locked.
+fn tell_refused(
+    alloc: Global,
+    precise: &Precise,
+    why: &str,
+    said: &mut Said,
+) -> Result<Outcome, AllocError> {
+    let (name, version) = (&precise.name, &precise.version);
+    let text = format!(in alloc; "{name} can't be {version}")?;
+    said.error("no-lock", text.as_str())?;
+    for line in why.lines() {
+        let line = without_newest(alloc, line)?;
+        let line = format!(in alloc; "{line}\n")?;
+        said.below(line.as_str())?;
+    }
+    let listers = precise.listers.as_str();
+    if listers.is_empty() {
+        return Ok(Outcome::no());
+    }
+    let text = format!(in alloc; "what lists {name} stays as it is locked: {listers}")?;
+    said.note(text.as_str())?;
+    Ok(Outcome::no())
+}
+
+/// A line without what it says of versions that there are: where some are left out, these aren't all of the index.
+fn without_newest(alloc: Global, line: &str) -> Result<String, AllocError> {
+    let mut text = String::new(alloc);
+    let (front, _) = line.split_once(", but no version of ").unwrap_or((line, ""));
+    for (place, part) in front.split(" (no version fits; ").enumerate() {
+        let kept = match part.split_once(')') {
+            Some((_, rest)) if place > 0 => rest,
+            _ => part,
+        };
+        text.push_str(kept)?;
+    }
+    Ok(text)
 }
 
 /// Whether a lock has the package at its version.

@@ -7,7 +7,7 @@ use crate::answers::{
     Form, NewLock, Repaired, Unlocked, changes_in, is_of_old_format, lock_in, lost_in, new_lock,
     preferred_by_cargo, readable_rest, refusal_in, unlock,
 };
-use crate::faults::tell_misreading;
+use crate::faults::{tell_checksums, tell_misreading};
 use crate::outcome::Outcome;
 use crate::said::Said;
 use crate::verifying::warn_of_refused;
@@ -83,8 +83,28 @@ fn resolved<F: Folder>(
     said: &mut Said,
 ) -> Result<Outcome, Fault> {
     let prefer = preference(alloc, bytes, wish)?;
-    let answer = new_lock(alloc, folder, from, prefer)?;
-    match &answer {
+    match new_lock(alloc, folder, from, prefer) {
+        Ok(answer) => answered(alloc, folder, paths, bytes, from, &answer, prefer, wish, said),
+        Err(Fault::ChecksumChanged(name, version)) => {
+            tell_checksums(alloc, folder, paths, from, name, version, said)
+        }
+        Err(fault) => Err(fault),
+    }
+}
+
+/// The same, once it is known whether there is a lock.
+fn answered<F: Folder>(
+    alloc: Global,
+    folder: &mut F,
+    paths: &Paths<'_>,
+    bytes: &Bytes,
+    from: &Bytes,
+    answer: &Answer,
+    prefer: Prefer,
+    wish: Wish,
+    said: &mut Said,
+) -> Result<Outcome, Fault> {
+    match answer {
         Answer::Lock {
             bytes: new,
             kept,

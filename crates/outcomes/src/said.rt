@@ -80,7 +80,11 @@ impl Said {
         let sentence = Sentence(fault);
         let message = format!(in self.alloc; "{sentence}")?;
         let code = format!(in self.alloc; "{fault}")?;
-        self.tell(severity, "fault", message.as_str(), Some(code.as_str()))
+        let code = match self.form {
+            Form::People => brief(fault, code.as_str()),
+            Form::Programs => code.as_str(),
+        };
+        self.tell(severity, "fault", message.as_str(), Some(code))
     }
 
     /// An error, or a warning unless errors alone are told; of a fault there is a code too.
@@ -149,5 +153,18 @@ impl Said {
             Form::People => self.err.push_str(text),
             Form::Programs => self.out.push_str(text),
         }
+    }
+}
+
+/// The code of a fault without what its sentence says too.
+fn brief<'a>(fault: &Fault, code: &'a str) -> &'a str {
+    let cut = match fault {
+        Fault::ChecksumChanged(_, _) => code.split_once(" at "),
+        Fault::UnsupportedSource(_) => code.rsplit_once(' '),
+        _ => None,
+    };
+    match cut {
+        Some((front, _)) => front,
+        None => code,
     }
 }

@@ -28,7 +28,13 @@ impl fmt::Display for ReadFault<'_> {
     fn fmt<W: fmt::Write>(&self, f: &mut fmt::Formatter<W>) -> fmt::Result {
         match self {
             ReadFault::OutOfMemory => f.write_str("out of memory"),
-            ReadFault::CannotRead(path, error) => write!(f, "cannot read {path}: {error}"),
+            ReadFault::CannotRead(path, error) => {
+                if error.kind() == ErrorKind::IsADirectory {
+                    write!(f, "{path} is a folder, where a file should be")
+                } else {
+                    write!(f, "cannot read {path}: {error}")
+                }
+            }
             ReadFault::NoFolder(path) => write!(f, "{path} is no folder"),
         }
     }

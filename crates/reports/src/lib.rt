@@ -8,6 +8,7 @@
 #![tactic(auto)]
 
 mod by_cargo;
+mod checksums;
 mod lost;
 mod part;
 mod refused;
@@ -19,6 +20,7 @@ mod ways;
 mod whole_index;
 
 pub use by_cargo::refused_by_cargo;
+pub use checksums::{Checksums, checksums_of};
 pub use lacks::LackTold;
 pub use lost::{lost_between, lost_version};
 pub use part::{Meant, Part, meant_by, part_in};

@@ -103,6 +103,30 @@ fn verb(held: usize) -> &'static str {
     }
 }
 
+/// What can't be absent by a step that says no more than that: `a 1.0.0`; none of a step that says anything else.
+pub(crate) fn needed_alone(
+    alloc: Global,
+    problem: &Problem<'_>,
+    terms: &[Term<'_>],
+) -> Result<Option<String>, AllocError> {
+    if count(terms, Part::Held) > 0 || count(terms, Part::Needed) != 1 {
+        return Ok(None);
+    }
+    let mut text = String::new(alloc);
+    push_nouns(alloc, &mut text, problem, terms, Part::Needed, 0)?;
+    // Of all versions it would have to be said that none can be used.
+    if text.starts_with("some ") {
+        Ok(None)
+    } else {
+        Ok(Some(text))
+    }
+}
+
+/// Whether a step says that there is no lock.
+pub(crate) fn is_end(terms: &[Term<'_>]) -> bool {
+    count(terms, Part::Held) == 0 && count(terms, Part::Needed) == 0
+}
+
 fn push_end(text: &mut String, problem: &Problem<'_>) -> Result<(), AllocError> {
     let name = problem.manifest.name();
     let version = problem.manifest.version();

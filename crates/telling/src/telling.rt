@@ -1,6 +1,6 @@
 //! A derivation in sentences.
 
-use crate::claim::push_claim;
+use crate::claim::{is_end, needed_alone, push_claim};
 use crate::clauses::{Clause, clauses_of, is_told, push_facts};
 use crate::facts::{Facts, facts_of};
 use crate::outline::{Premise, Sentence, sentences_of};
@@ -151,11 +151,45 @@ impl Whole<'_, '_> {
             push_comma(text, place, clauses.len())?;
             self.push_clause(alloc, text, clause)?;
         }
-        if !clauses.is_empty() {
-            text.push_str(", ")?;
-        }
+        let restated = if goes_on { before } else { None };
+        self.push_joint(alloc, text, sentence.step, restated, clauses.is_empty())?;
         self.push_step(alloc, text, sentence.step)?;
         text.push_str(".")
+    }
+
+    /// What stands before what a step says, if reasons do: a comma, and where it is the end of the derivation what these
+    /// exclude of what the sentence at a place says, from which it goes on.
+    fn push_joint(
+        &self,
+        alloc: Global,
+        text: &mut String,
+        step: usize,
+        restated: Option<usize>,
+        has_none: bool,
+    ) -> Result<(), AllocError> {
+        if has_none {
+            return Ok(());
+        }
+        let terms = terms_of(alloc, self.derivation, step)?;
+        if !is_end(&terms) {
+            return text.push_str(", ");
+        }
+        if let Some(excluded) = self.needed_at(alloc, restated)? {
+            write!(text, ", {excluded} can't be used")?;
+        }
+        text.push_str(": so ")
+    }
+
+    /// What the sentence at a place says has to be used, if it says no more.
+    fn needed_at(&self, alloc: Global, place: Option<usize>) -> Result<Option<String>, AllocError> {
+        let Some(place) = place else {
+            return Ok(None);
+        };
+        let Some(sentence) = self.sentences.get(place) else {
+            return Ok(None);
+        };
+        let terms = terms_of(alloc, self.derivation, sentence.step)?;
+        needed_alone(alloc, &self.problem, &terms)
     }
 
     fn push_clause(
