@@ -4,9 +4,9 @@ use crate::failure::Failure;
 use features::PackageName;
 use index_reader::{DiskFolder, index_path};
 use outcomes::{
-    Outcome, Pinned, Question, Said, Wish, has_workspace, membership, precise_in, precise_told, question_in,
+    Outcome, Pinned, Question, Said, Wish, has_workspace, membership, no_index, precise_in, precise_told, question_in,
     resolve_told, skips_told, skips_told_of_all, tell_fetched, tell_read, tell_time, told_fault,
-    update_told, verify_told, warn_of_none, warn_of_workspace, why_told,
+    update_told, verify_told, warn_of_workspace, why_told,
 };
 use progress::{Counted, Watch};
 use project_files::{
@@ -39,8 +39,8 @@ fn folder_at<R: Files + AllocGlobal + Clone + Drop>(
     Ok(IndexFolder::new(rt.alloc(), folder, paths.is_fetched))
 }
 
-/// What a command ends with, once a fault is told, and what there is to say of the index: that Cargo fetched it, or that
-/// there is no file of one, where none was found of those that were looked for; and the time.
+/// What a command ends with, once a fault is told, and what there is to say of the index: that Cargo fetched it; and the
+/// time. Where there is no file of an index, and none was found of those that were looked for, that is told alone.
 fn ended<R: Files + Clock + Eprint + AllocGlobal + Clone + Drop>(
     rt: &R,
     paths: &Paths<'_>,
@@ -53,10 +53,13 @@ fn ended<R: Files + Clock + Eprint + AllocGlobal + Clone + Drop>(
     let alloc = rt.alloc();
     let seen = index.seen();
     let path = paths.index.as_str();
+    if seen.asked > 0 && seen.files == 0 {
+        if let Some(lacking) = lacking_at(rt, path)? {
+            return without_index(alloc, path, &lacking, said);
+        }
+    }
     let outcome = told_fault(alloc, paths, bytes, told, said)?;
-    if seen.asked > 0 && seen.files == 0 && is_no_index(rt, path)? {
-        warn_of_none(alloc, path, said)?;
-    } else if paths.is_fetched {
+    if paths.is_fetched {
         // After a no names were looked for that are like others, so that their number says nothing.
         let missing = if outcome.is_yes() {
             Some(index.folder().missing())
@@ -102,28 +105,65 @@ fn checked<'a, R: Files + AllocGlobal>(
     Ok(wish)
 }
 
-/// Whether no file of a folder lies where an index has it; of one that can't be listed that isn't known.
-fn is_no_index<R: Files + AllocGlobal + Clone + Drop>(
+/// A folder in which no file lies where an index has it.
+#[derive(Drop)]
+struct Lacking {
+    /// A folder in it in which one does.
+    inner: Option<String>,
+}
+
+fn without_index(
+    alloc: Global,
+    index: &str,
+    lacking: &Lacking,
+    said: &mut Said,
+) -> Result<Outcome, AllocError> {
+    let inner = match &lacking.inner {
+        Some(inner) => Some(inner.as_str()),
+        None => None,
+    };
+    no_index(alloc, index, inner, said)
+}
+
+/// That no file of a folder lies where an index has it, if that is so; of one that can't be listed that isn't known.
+fn lacking_at<R: Files + AllocGlobal + Clone + Drop>(
     rt: &R,
     index: &str,
-) -> Result<bool, AllocError> {
+) -> Result<Option<Lacking>, AllocError> {
     match paths_below(rt, index) {
-        Ok(paths) => Ok(!has_index_file(rt.alloc(), &paths)?),
-        Err(_) => Ok(false),
+        Ok(paths) => lacking_in(rt.alloc(), &paths),
+        Err(_) => Ok(None),
     }
 }
 
-fn has_index_file(alloc: Global, paths: &[String]) -> Result<bool, AllocError> {
+fn lacking_in(alloc: Global, paths: &[String]) -> Result<Option<Lacking>, AllocError> {
+    let mut inner = None;
     for path in paths {
-        let path = path.as_str();
-        let (_, name) = path.rsplit_once('/').unwrap_or(("", path));
-        if let Ok(name) = PackageName::parse(alloc, name) {
-            if index_path(alloc, &name)?.as_str() == path {
-                return Ok(true);
-            }
+        match index_before(alloc, path.as_str())? {
+            Some("") => return Ok(None),
+            Some(folder) => inner = inner.or(Some(folder)),
+            None => {}
         }
     }
-    Ok(false)
+    let inner = match inner {
+        Some(folder) => Some(String::from_str(alloc, folder)?),
+        None => None,
+    };
+    Ok(Some(Lacking { inner }))
+}
+
+/// The folder in which a file lies as in an index, if it lies so: none but the whole where that is the path of a name.
+fn index_before<'p>(alloc: Global, path: &'p str) -> Result<Option<&'p str>, AllocError> {
+    let (_, name) = path.rsplit_once('/').unwrap_or(("", path));
+    let Ok(name) = PackageName::parse(alloc, name) else {
+        return Ok(None);
+    };
+    let own = index_path(alloc, &name)?;
+    Ok(match path.strip_suffix(own.as_str()) {
+        Some("") => Some(""),
+        Some(front) => front.strip_suffix('/'),
+        None => None,
+    })
 }
 
 pub(crate) fn resolve_at<'a, R: Files + Clock + Eprint + AllocGlobal + Clone + Drop>(
@@ -338,7 +378,9 @@ pub(crate) fn skips_at_all<'a, R: Files + Clock + Eprint + AllocGlobal + Clone +
         tell_all_read(alloc, paths, &index, said)?;
     }
     if index.seen().asked == 0 {
-        warn_of_none(alloc, paths.index.as_str(), said)?;
+        if let Some(lacking) = lacking_in(alloc, &files)? {
+            return Ok(without_index(alloc, paths.index.as_str(), &lacking, said)?);
+        }
     }
     let nothing = Bytes {
         manifest: Vec::new(alloc),

@@ -58,7 +58,7 @@ impl fmt::Display for Failure<'_> {
                 "no index is named, and Cargo fetched none: give --index DIR, or set RELOCK_INDEX",
             ),
             Failure::NoPackage(text) => write!(f, "`{text}` is no NAME or NAME@VERSION"),
-            Failure::NoVersion(text) => write!(f, "`{text}` is no version"),
+            Failure::NoVersion(text) => write!(f, "`{text}` is no full version, such as 1.1.0"),
             Failure::NoSource(text) => write!(f, "`{text}` is no source of packages"),
             Failure::NotOne => f.write_str("--precise needs one package"),
             Failure::Member(path) => write!(

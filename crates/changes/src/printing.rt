@@ -59,7 +59,9 @@ pub fn tell_changes<'a>(
     let mut text = String::new(alloc);
     let lines = told_lines(alloc, catalogue, new, changes, rust)?;
     let locked = Packages(changes.came.len());
-    writeln!(text, "     Locking {locked}")?;
+    if !is_of_root_alone(changes) {
+        writeln!(text, "     Locking {locked}")?;
+    }
     for told in lines.iter() {
         if all || !told.is_of_one_that_stays() {
             push_line(&mut text, *told)?;
@@ -111,6 +113,15 @@ fn told_line<'a>(
             rust: needed,
         },
     }
+}
+
+/// Whether no package comes or goes, but that of the manifest changes.
+fn is_of_root_alone(changes: &Changes<'_>) -> bool {
+    let is_moved = match changes.roots {
+        Some((before, after)) => before.name != after.name || before.version != after.version,
+        None => false,
+    };
+    is_moved && changes.came.is_empty() && changes.gone.is_empty()
 }
 
 /// So many packages.

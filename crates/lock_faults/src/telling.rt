@@ -11,7 +11,7 @@ use std::str::from_utf8;
 const MOST_BYTES: usize = 67_108_864;
 
 /// What is told of a lock that a merge left unfinished.
-const MARKS: &str = "the marks of a merge begin here";
+const MARKS: &str = "an unfinished merge begins here";
 
 /// Where and why the bytes of a lock don't read, if they don't.
 pub fn misreading_of(alloc: Global, bytes: &[u8]) -> Result<Option<Misreading>, AllocError> {
@@ -33,10 +33,20 @@ fn of_toml(alloc: Global, bytes: &[u8], error: &toml::de::Error) -> Result<Misre
     let found = no_toml(alloc, bytes, error)?;
     match first_mark(bytes) {
         Some(mark) if is_before(mark, found.line) => {
-            let why = String::from_str(alloc, MARKS)?;
+            let sign = sign_at(bytes, mark);
+            let why = format!(in alloc; "{MARKS}{sign}")?;
             Ok(Misreading::new(alloc, Some(mark), why))
         }
         _ => Ok(found),
+    }
+}
+
+/// The sign with which a merge begins, if the line of a number, from 1, has it.
+fn sign_at(bytes: &[u8], number: usize) -> &'static str {
+    let mut lines = bytes.split(|byte| *byte == b'\n').skip(number.saturating_sub(1));
+    match lines.next() {
+        Some(line) if line.starts_with("<<<<<<<".as_bytes()) => " (<<<<<<<)",
+        _ => "",
     }
 }
 

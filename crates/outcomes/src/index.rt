@@ -1,6 +1,7 @@
 //! How much of an index was read.
 
 use crate::answers::Form;
+use crate::outcome::Outcome;
 use crate::said::Said;
 use std::alloc::{AllocError, Global};
 
@@ -29,12 +30,23 @@ fn read(alloc: Global, files: u64, lines: u64) -> Result<String, AllocError> {
     format!(in alloc; "{files} {what} with {lines} {many} {were} read\n")
 }
 
-/// That a folder has no file of an index: it may be empty, or lie above or below the index itself.
-pub fn warn_of_none(alloc: Global, index: &str, said: &mut Said) -> Result<(), AllocError> {
-    let message = format!(in alloc;
-        "{index} has no file of an index, such as se/rd/serde; --index takes the folder in which these lie"
-    )?;
-    said.first_warning("no-index", message.as_str())
+/// That a folder has no file of an index, alone; `inner` is a folder in it that has one, if that is so.
+pub fn no_index(
+    alloc: Global,
+    index: &str,
+    inner: Option<&str>,
+    said: &mut Said,
+) -> Result<Outcome, AllocError> {
+    said.clear();
+    let message = format!(in alloc; "{index} is no index: it has no file such as se/rd/serde")?;
+    said.error("no-index", message.as_str())?;
+    let perhaps = match inner {
+        Some(inner) => format!(in alloc; "; perhaps {}/{inner}", index.trim_end_matches('/'))?,
+        None => String::new(alloc),
+    };
+    let note = format!(in alloc; "--index takes the folder in which such files lie{perhaps}")?;
+    said.note(note.as_str())?;
+    Ok(Outcome::failed())
 }
 
 /// That the index is what Cargo fetched, and how many packages were looked for that it didn't, where that is known.
@@ -79,6 +91,12 @@ pub fn tell_time(
     let (tenths, hundredths) = (millis / 100 % 10, millis / 10 % 10);
     let time = format!(in alloc; "    Finished in {seconds}.{tenths}{hundredths}s")?;
     said.answer(time.as_str())?;
-    let read = format!(in alloc; "; {lines} lines were read, in {asked} files asked for\n")?;
+    let (line, were) = if lines == 1 {
+        ("line", "was")
+    } else {
+        ("lines", "were")
+    };
+    let file = if asked == 1 { "file" } else { "files" };
+    let read = format!(in alloc; "; {lines} {line} {were} read, in {asked} {file} asked for\n")?;
     said.answer(read.as_str())
 }

@@ -30,7 +30,7 @@ mod workspace;
 
 pub use answers::{CRATES_IO, Form};
 pub use faults::told_fault;
-pub use index::{tell_fetched, tell_read, tell_time, warn_of_none};
+pub use index::{no_index, tell_fetched, tell_read, tell_time};
 pub use outcome::{FAILED, Outcome};
 pub use pinning::{Pinned, Pins};
 pub use precise::{Precise, precise_in, precise_told};

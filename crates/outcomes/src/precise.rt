@@ -235,7 +235,12 @@ fn tell_refused(
     said.error("no-lock", text.as_str())?;
     for line in why.lines() {
         let line = without_newest(alloc, line)?;
-        let line = format!(in alloc; "{line}\n")?;
+        let line = match line.as_str().split_once("there is no lock for ") {
+            Some((front, _)) => {
+                format!(in alloc; "{front}there is no lock with {name} {version}.\n")?
+            }
+            None => format!(in alloc; "{line}\n")?,
+        };
         said.below(line.as_str())?;
     }
     let listers = precise.listers.as_str();

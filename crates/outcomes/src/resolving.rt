@@ -20,9 +20,8 @@ use project_files::{Bytes, Paths};
 use resolver::{Answer, Fault};
 use std::alloc::{AllocError, Global};
 
-/// What can be done about locked versions that aren't there.
-const BEHIND: &str = "an index that is behind the lock has to be brought up to date; \
-else `cargo relock update` with these names takes other versions";
+/// How the note on unchanged packages begins, the last line of what changes.
+const BEHIND: &str = "note: pass `--all`";
 
 /// What `resolve` and `update` are to do beside telling.
 #[derive(Clone, Copy, Debug)]
@@ -193,8 +192,11 @@ pub(crate) fn locked<F: Folder>(
     if !lock.kept && !wish.repair {
         let lost = lost_in(alloc, folder, from, lock.bytes)?;
         if !lost.is_empty() {
-            return Ok(tell_lost(&lost, said)?);
+            return Ok(tell_lost(alloc, &lost, said)?);
         }
+    }
+    if wish.locked && !lock.kept {
+        return would_change(alloc, folder, paths, bytes, lock, wish, said);
     }
     let path = paths.lock.as_str();
     let text = changes_in(alloc, folder, bytes, path, lock, said.form(), wish.all)?;
@@ -230,12 +232,45 @@ fn tell_skipped(alloc: Global, skipped: usize, said: &mut Said) -> Result<(), Al
     }
 }
 
-fn tell_lost(lost: &[String], said: &mut Said) -> Result<Outcome, AllocError> {
+/// Of which locked versions the index has none, and what can be done about that; each sentence begins with the name.
+fn tell_lost(alloc: Global, lost: &[String], said: &mut Said) -> Result<Outcome, AllocError> {
+    let mut names = String::new(alloc);
     for sentence in lost.iter() {
         said.error("not-in-index", sentence.as_str())?;
+        let (name, _) = sentence.as_str().split_once(' ').unwrap_or(("", ""));
+        write!(names, " {name}")?;
     }
-    said.note(BEHIND)?;
+    let text = format!(in alloc;
+        "bring the index up to date, or take other versions: `cargo relock update{names}`"
+    )?;
+    said.note(text.as_str())?;
     Ok(Outcome::no())
+}
+
+/// That with `--locked` the lock would change, and below that how.
+fn would_change<F: Folder>(
+    alloc: Global,
+    folder: &mut F,
+    paths: &Paths<'_>,
+    bytes: &Bytes,
+    lock: NewLock<'_>,
+    wish: Wish,
+    said: &mut Said,
+) -> Result<Outcome, Fault> {
+    let path = paths.lock.as_str();
+    let form = said.form();
+    let text = changes_in(alloc, folder, bytes, path, lock, form, wish.all)?;
+    if form == Form::Programs {
+        said.answer(text.as_str())?;
+    }
+    let outcome = with_new_lock(alloc, path, bytes.lock.is_some(), lock, wish, said)?;
+    if form == Form::People && !said.is_quiet() {
+        said.below("It would change so:\n")?;
+        let (changes, _) = text.as_str().split_once(BEHIND).unwrap_or((text.as_str(), ""));
+        said.below(changes)?;
+    }
+    said.note("`--write` in the place of `--locked` writes it")?;
+    Ok(outcome)
 }
 
 /// What becomes of a lock that is another one than the old: with `--locked` that is an error, and `--write` hands it on.
@@ -259,7 +294,6 @@ fn with_new_lock(
             format!(in alloc; "there is no {path}, and --locked was given")?
         };
         said.error("would-change", text.as_str())?;
-        said.note("the same without --locked and with --write writes it")?;
         return Ok(Outcome::no());
     }
     if wish.write {
