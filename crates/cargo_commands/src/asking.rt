@@ -4,9 +4,9 @@ use crate::failure::Failure;
 use features::PackageName;
 use index_reader::{DiskFolder, index_path};
 use outcomes::{
-    Outcome, Pinned, Question, Said, Wish, has_workspace, membership, no_index, precise_in, precise_told, question_in,
-    resolve_told, skips_told, skips_told_of_all, tell_fetched, tell_read, tell_time, told_fault,
-    update_told, verify_told, warn_of_workspace, why_told,
+    Outcome, Pinned, Question, Said, Wish, has_workspace, no_index, precise_in, precise_told,
+    question_in, resolve_told, skips_told, skips_told_of_all, standing_of, tell_fetched, tell_read,
+    tell_time, told_fault, update_told, verify_told, warn_of_workspace, why_told,
 };
 use progress::{Counted, Watch};
 use project_files::{
@@ -93,7 +93,7 @@ fn checked<'a, R: Files + AllocGlobal>(
                 return Err(Failure::Member(above.path));
             }
             let below = above.below.as_str();
-            let found = membership(alloc, &above.bytes, below)?;
+            let found = standing_of(alloc, &above.bytes, below)?;
             let path = above.path.as_str();
             warn_of_workspace(alloc, paths.manifest, path, below, found, said)?;
             return Ok(Wish {

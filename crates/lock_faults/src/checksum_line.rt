@@ -8,11 +8,15 @@ pub fn checksum_line(bytes: &[u8], name: &str, version: &str) -> Option<usize> {
     let mut is_named = false;
     let mut is_meant = false;
     for (number, line) in text.lines().enumerate() {
-        match said_in(line) {
-            Some(("name", said)) => is_named = said == name,
-            Some(("version", said)) => is_meant = is_named && said == version,
-            Some(("checksum", _)) if is_meant => return Some(number + 1),
-            _ => {}
+        if let Some((key, said)) = said_in(line) {
+            if key == "name" {
+                is_named = said == name;
+                is_meant = false;
+            } else if key == "version" {
+                is_meant = is_named && said == version;
+            } else if is_meant && key == "checksum" {
+                return Some(number + 1);
+            }
         }
     }
     None

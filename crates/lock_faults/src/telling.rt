@@ -43,7 +43,9 @@ fn of_toml(alloc: Global, bytes: &[u8], error: &toml::de::Error) -> Result<Misre
 
 /// The sign with which a merge begins, if the line of a number, from 1, has it.
 fn sign_at(bytes: &[u8], number: usize) -> &'static str {
-    let mut lines = bytes.split(|byte| *byte == b'\n').skip(number.saturating_sub(1));
+    let mut lines = bytes
+        .split(|byte| *byte == b'\n')
+        .skip(number.saturating_sub(1));
     match lines.next() {
         Some(line) if line.starts_with("<<<<<<<".as_bytes()) => " (<<<<<<<)",
         _ => "",

@@ -45,13 +45,7 @@ pub(crate) fn push_sentence(
             text,
             "{place}: it is left to a workspace, which isn't supported"
         ),
-        Why::Foreign(source) => {
-            let key = key_of(source, value);
-            match value_of(value, key) {
-                "" => write!(text, "{place} has the key `{key}`"),
-                said => write!(text, "{place} has {key} = \"{said}\""),
-            }
-        }
+        Why::Foreign(source) => push_foreign(text, &place, key_of(source, value), value),
         _ => push_of_entry(text, text_in(value), culprit),
     }
 }
@@ -102,6 +96,21 @@ fn push_reason(alloc: Global, text: &mut String, sort: Sort, word: &str) -> Resu
             Err(why) => write!(text, " ({why})"),
         },
         _ => Ok(()),
+    }
+}
+
+/// The key of a dependency that asks for a source, with the text that stands there.
+fn push_foreign(
+    text: &mut String,
+    place: &Place<'_>,
+    key: &str,
+    dependency: Option<&Value>,
+) -> Result<(), AllocError> {
+    let said = value_of(dependency, key);
+    if said.is_empty() {
+        write!(text, "{place} has the key `{key}`")
+    } else {
+        write!(text, "{place} has {key} = \"{said}\"")
     }
 }
 

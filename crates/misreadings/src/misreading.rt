@@ -74,9 +74,7 @@ fn why_of<'a>(message: &'a str, rest: &[u8]) -> &'a str {
     let is_cut = message == "invalid string";
     match rest.trim_ascii_start().first() {
         None if is_cut => "the file ends within this string; it was probably cut off",
-        _ if is_cut && rest.first() == Some(&b'\n') => {
-            "this string has no closing quote"
-        }
+        _ if is_cut && rest.first() == Some(&b'\n') => { "this string has no closing quote" }
         _ => message,
     }
 }

@@ -20,7 +20,7 @@ const REPAIR: &str =
     "`cargo relock resolve --repair` keeps what can be read, and resolves the rest anew";
 
 /// How a checksum can have changed.
-const CHECKSUMS: &str =
+const CAUSES: &str =
     "the lock was changed by hand, or this index isn't the one that it was made from";
 
 /// What can be done about a source that isn't supported.
@@ -106,7 +106,7 @@ fn tell_more(
         tell_manifest_misreading(alloc, paths, bytes, said)?;
         tell_of_source(fault, said)
     } else if is_of_checksum(fault) {
-        said.note(CHECKSUMS)
+        said.note(CAUSES)
     } else {
         Ok(())
     }
@@ -142,7 +142,7 @@ pub(crate) fn tell_checksums<F: Folder>(
     let lines = checksum_lines(alloc, paths, lock_in(bytes), &name, &version, &sums)?;
     said.fault(&Fault::ChecksumChanged(name, version), Severity::Error)?;
     said.below(lines.as_str())?;
-    said.note(CHECKSUMS)?;
+    said.note(CAUSES)?;
     Ok(Outcome::failed())
 }
 

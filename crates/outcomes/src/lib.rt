@@ -39,4 +39,4 @@ pub use said::Said;
 pub use skipping::{skips_told, skips_told_of_all};
 pub use verifying::verify_told;
 pub use why::{Question, question_in, why_told};
-pub use workspace::{Membership, has_workspace, membership, warn_of_workspace};
+pub use workspace::{Membership, has_workspace, standing_of, warn_of_workspace};

@@ -255,7 +255,9 @@ fn tell_refused(
 /// A line without what it says of versions that there are: where some are left out, these aren't all of the index.
 fn without_newest(alloc: Global, line: &str) -> Result<String, AllocError> {
     let mut text = String::new(alloc);
-    let (front, _) = line.split_once(", but no version of ").unwrap_or((line, ""));
+    let (front, _) = line
+        .split_once(", but no version of ")
+        .unwrap_or((line, ""));
     for (place, part) in front.split(" (no version fits; ").enumerate() {
         let kept = match part.split_once(')') {
             Some((_, rest)) if place > 0 => rest,

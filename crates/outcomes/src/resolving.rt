@@ -83,7 +83,9 @@ fn resolved<F: Folder>(
 ) -> Result<Outcome, Fault> {
     let prefer = preference(alloc, bytes, wish)?;
     match new_lock(alloc, folder, from, prefer) {
-        Ok(answer) => answered(alloc, folder, paths, bytes, from, &answer, prefer, wish, said),
+        Ok(answer) => answered(
+            alloc, folder, paths, bytes, from, &answer, prefer, wish, said,
+        ),
         Err(Fault::ChecksumChanged(name, version)) => {
             tell_checksums(alloc, folder, paths, from, name, version, said)
         }
@@ -195,9 +197,24 @@ pub(crate) fn locked<F: Folder>(
             return Ok(tell_lost(alloc, &lost, said)?);
         }
     }
-    if wish.locked && !lock.kept {
-        return would_change(alloc, folder, paths, bytes, lock, wish, said);
+    if wish.locked && !lock.kept && said.form() == Form::People {
+        would_change(alloc, folder, paths, bytes, lock, wish, said)
+    } else {
+        lock_told(alloc, folder, paths, bytes, from, lock, wish, said)
     }
+}
+
+/// What changes in the lock, what else there is to say of that, and what becomes of it.
+fn lock_told<F: Folder>(
+    alloc: Global,
+    folder: &mut F,
+    paths: &Paths<'_>,
+    bytes: &Bytes,
+    from: &Bytes,
+    lock: NewLock<'_>,
+    wish: Wish,
+    said: &mut Said,
+) -> Result<Outcome, Fault> {
     let path = paths.lock.as_str();
     let text = changes_in(alloc, folder, bytes, path, lock, said.form(), wish.all)?;
     said.answer(text.as_str())?;
@@ -247,7 +264,7 @@ fn tell_lost(alloc: Global, lost: &[String], said: &mut Said) -> Result<Outcome,
     Ok(Outcome::no())
 }
 
-/// That with `--locked` the lock would change, and below that how.
+/// That with `--locked` the lock would change, and below that how: to people.
 fn would_change<F: Folder>(
     alloc: Global,
     folder: &mut F,
@@ -258,15 +275,14 @@ fn would_change<F: Folder>(
     said: &mut Said,
 ) -> Result<Outcome, Fault> {
     let path = paths.lock.as_str();
-    let form = said.form();
-    let text = changes_in(alloc, folder, bytes, path, lock, form, wish.all)?;
-    if form == Form::Programs {
-        said.answer(text.as_str())?;
-    }
+    let text = changes_in(alloc, folder, bytes, path, lock, Form::People, wish.all)?;
     let outcome = with_new_lock(alloc, path, bytes.lock.is_some(), lock, wish, said)?;
-    if form == Form::People && !said.is_quiet() {
+    if !said.is_quiet() {
         said.below("It would change so:\n")?;
-        let (changes, _) = text.as_str().split_once(BEHIND).unwrap_or((text.as_str(), ""));
+        let (changes, _) = text
+            .as_str()
+            .split_once(BEHIND)
+            .unwrap_or((text.as_str(), ""));
         said.below(changes)?;
     }
     said.note("`--write` in the place of `--locked` writes it")?;

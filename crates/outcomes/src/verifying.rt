@@ -5,10 +5,12 @@ use crate::outcome::Outcome;
 use crate::said::Said;
 use catalogue::Catalogue;
 use index_reader::Folder;
-use messages::Severity;
 use lockfile::LockContent;
+use messages::Severity;
 use project_files::{Bytes, Paths};
-use reports::{Beside, Refused, loaded, refused_by_cargo, refused_kind, refused_lines, refused_sentence};
+use reports::{
+    Beside, Refused, loaded, refused_by_cargo, refused_kind, refused_lines, refused_sentence,
+};
 use resolver::Fault;
 use selection::Verdict;
 use std::alloc::{AllocError, Global};

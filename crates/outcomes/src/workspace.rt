@@ -50,7 +50,7 @@ pub enum Membership {
 }
 
 /// What the workspace of a manifest says of the package in a folder below it.
-pub fn membership(alloc: Global, manifest: &[u8], below: &str) -> Result<Membership, AllocError> {
+pub fn standing_of(alloc: Global, manifest: &[u8], below: &str) -> Result<Membership, AllocError> {
     let Some(manifest) = read_table(alloc, manifest)? else {
         return Ok(Membership::Unknown);
     };
