@@ -11,7 +11,7 @@
 #![tactic(auto)]
 
 mod called;
-mod checksum_line;
+mod checksums;
 mod marks;
 mod misread;
 mod reading;
@@ -19,6 +19,6 @@ mod repairing;
 mod section;
 mod telling;
 
-pub use checksum_line::checksum_line;
+pub use checksums::checksum_line;
 pub use repairing::{LeftOut, Readable, part_without, readable_part};
 pub use telling::misreading_of;

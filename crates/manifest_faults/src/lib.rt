@@ -6,19 +6,19 @@
 //! needs no proof. The line is treated alike (`line.rt`): it is told where TOML itself says that what stands there
 //! begins on it.
 //!
-//! The lines of dependencies that read are told too (`dependency_lines.rt`), for who tells what else is wrong with one.
+//! The lines of dependencies that read are told too (`lines.rt`), for who tells what else is wrong with one.
 //!
 //! A layer above may rely on this: a part that is found has the fault that is given, and a line that is found is one on
 //! which the part begins. That something is found, and the words in which it is told, are only tested.
 #![tactic(auto)]
 
 mod called;
-mod dependency_lines;
 mod due;
 mod entries;
 mod feature_finding;
 mod finding;
 mod line;
+mod lines;
 mod meaning;
 mod place;
 mod sentences;
@@ -28,5 +28,5 @@ mod telling;
 mod why;
 mod wrong;
 
-pub use dependency_lines::dependency_lines;
+pub use lines::dependency_lines;
 pub use telling::misreading_of;
