@@ -131,39 +131,49 @@ fn lacking_at<R: Files + AllocGlobal + Clone + Drop>(
     index: &str,
 ) -> Result<Option<Lacking>, AllocError> {
     match paths_below(rt, index) {
-        Ok(paths) => lacking_in(rt.alloc(), &paths),
+        Ok(paths) => lacking_in(rt, index, &paths),
         Err(_) => Ok(None),
     }
 }
 
-fn lacking_in(alloc: Global, paths: &[String]) -> Result<Option<Lacking>, AllocError> {
-    let mut inner = None;
-    for path in paths {
-        match index_before(alloc, path.as_str())? {
-            Some("") => return Ok(None),
-            Some(folder) => inner = inner.or(Some(folder)),
-            None => {}
-        }
+/// The same of a folder with files at these paths.
+fn lacking_in<R: Files + AllocGlobal + Clone + Drop>(
+    rt: &R,
+    index: &str,
+    paths: &[String],
+) -> Result<Option<Lacking>, AllocError> {
+    if has_index_file(rt.alloc(), paths)? {
+        return Ok(None);
     }
-    let inner = match inner {
-        Some(folder) => Some(String::from_str(alloc, folder)?),
-        None => None,
-    };
+    let inner = inner_index(rt, index)?;
     Ok(Some(Lacking { inner }))
 }
 
-/// The folder in which a file lies as in an index, if it lies so: none but the whole where that is the path of a name.
-fn index_before<'p>(alloc: Global, path: &'p str) -> Result<Option<&'p str>, AllocError> {
-    let (_, name) = path.rsplit_once('/').unwrap_or(("", path));
-    let Ok(name) = PackageName::parse(alloc, name) else {
-        return Ok(None);
+/// The folder `index` in a folder, as Cargo's local registries have it, if it has a file of an index.
+fn inner_index<R: Files + AllocGlobal + Clone + Drop>(
+    rt: &R,
+    folder: &str,
+) -> Result<Option<String>, AllocError> {
+    let alloc = rt.alloc();
+    let inner = format!(in alloc; "{}/index", folder.trim_end_matches('/'))?;
+    let is_index = match paths_below(rt, inner.as_str()) {
+        Ok(paths) => has_index_file(alloc, &paths)?,
+        Err(_) => false,
     };
-    let own = index_path(alloc, &name)?;
-    Ok(match path.strip_suffix(own.as_str()) {
-        Some("") => Some(""),
-        Some(front) => front.strip_suffix('/'),
-        None => None,
-    })
+    Ok(if is_index { Some(inner) } else { None })
+}
+
+fn has_index_file(alloc: Global, paths: &[String]) -> Result<bool, AllocError> {
+    for path in paths {
+        let path = path.as_str();
+        let (_, name) = path.rsplit_once('/').unwrap_or(("", path));
+        if let Ok(name) = PackageName::parse(alloc, name) {
+            if index_path(alloc, &name)?.as_str() == path {
+                return Ok(true);
+            }
+        }
+    }
+    Ok(false)
 }
 
 pub(crate) fn resolve_at<'a, R: Files + Clock + Eprint + AllocGlobal + Clone + Drop>(
@@ -378,7 +388,7 @@ pub(crate) fn skips_at_all<'a, R: Files + Clock + Eprint + AllocGlobal + Clone +
         tell_all_read(alloc, paths, &index, said)?;
     }
     if index.seen().asked == 0 {
-        if let Some(lacking) = lacking_in(alloc, &files)? {
+        if let Some(lacking) = lacking_in(rt, paths.index.as_str(), &files)? {
             return Ok(without_index(alloc, paths.index.as_str(), &lacking, said)?);
         }
     }

@@ -10,8 +10,10 @@ use std::str::from_utf8;
 /// The greatest number of bytes that a lock may have: 64 MiB.
 const MOST_BYTES: usize = 67_108_864;
 
-/// What is told of a lock that a merge left unfinished.
-const MARKS: &str = "an unfinished merge begins here";
+/// What is told of a lock that a merge left unfinished, at its first mark, and at another one.
+const BEGUN: &str = "an unfinished merge begins here (<<<<<<<)";
+
+const LEFT: &str = "a mark of a merge was left here";
 
 /// Where and why the bytes of a lock don't read, if they don't.
 pub fn misreading_of(alloc: Global, bytes: &[u8]) -> Result<Option<Misreading>, AllocError> {
@@ -33,22 +35,21 @@ fn of_toml(alloc: Global, bytes: &[u8], error: &toml::de::Error) -> Result<Misre
     let found = no_toml(alloc, bytes, error)?;
     match first_mark(bytes) {
         Some(mark) if is_before(mark, found.line) => {
-            let sign = sign_at(bytes, mark);
-            let why = format!(in alloc; "{MARKS}{sign}")?;
+            let why = String::from_str(alloc, told_of_mark(bytes, mark))?;
             Ok(Misreading::new(alloc, Some(mark), why))
         }
         _ => Ok(found),
     }
 }
 
-/// The sign with which a merge begins, if the line of a number, from 1, has it.
-fn sign_at(bytes: &[u8], number: usize) -> &'static str {
+/// What is told of the first mark of a merge, on the line of this number, from 1.
+fn told_of_mark(bytes: &[u8], number: usize) -> &'static str {
     let mut lines = bytes
         .split(|byte| *byte == b'\n')
         .skip(number.saturating_sub(1));
     match lines.next() {
-        Some(line) if line.starts_with("<<<<<<<".as_bytes()) => " (<<<<<<<)",
-        _ => "",
+        Some(line) if line.starts_with("<<<<<<<".as_bytes()) => BEGUN,
+        _ => LEFT,
     }
 }
 

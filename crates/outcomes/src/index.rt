@@ -30,7 +30,7 @@ fn read(alloc: Global, files: u64, lines: u64) -> Result<String, AllocError> {
     format!(in alloc; "{files} {what} with {lines} {many} {were} read\n")
 }
 
-/// That a folder has no file of an index, alone; `inner` is a folder in it that has one, if that is so.
+/// That a folder has no file of an index, alone; `inner` is the path of one in it that has, if there is one.
 pub fn no_index(
     alloc: Global,
     index: &str,
@@ -41,7 +41,7 @@ pub fn no_index(
     let message = format!(in alloc; "{index} is no index: it has no file such as se/rd/serde")?;
     said.error("no-index", message.as_str())?;
     let perhaps = match inner {
-        Some(inner) => format!(in alloc; "; perhaps {}/{inner}", index.trim_end_matches('/'))?,
+        Some(inner) => format!(in alloc; "; perhaps {inner}")?,
         None => String::new(alloc),
     };
     let note = format!(in alloc; "--index takes the folder in which such files lie{perhaps}")?;
