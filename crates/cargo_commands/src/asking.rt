@@ -39,8 +39,8 @@ fn folder_at<R: Files + AllocGlobal + Clone + Drop>(
     Ok(IndexFolder::new(rt.alloc(), folder, paths.is_fetched))
 }
 
-/// What a command ends with, once a fault is told, and what there is to say of the index: that Cargo fetched it; and the
-/// time. Where there is no file of an index, and none was found of those that were looked for, that is told alone.
+/// What a command ends with, once a fault is told, and what there is to say of the index: that Cargo fetched it; and
+/// the time. Where there is no file of an index, and none was found of those that were looked for, that is told alone.
 fn ended<R: Files + Clock + Eprint + AllocGlobal + Clone + Drop>(
     rt: &R,
     paths: &Paths<'_>,
@@ -74,8 +74,8 @@ fn ended<R: Files + Clock + Eprint + AllocGlobal + Clone + Drop>(
     Ok(outcome)
 }
 
-/// What is to be done, once it is known whether the manifest is a member of a workspace, whose lock Cargo takes: that is
-/// told, and where the lock was to be written refused.
+/// What is to be done, once it is known whether the manifest is a member of a workspace, whose lock Cargo takes:
+/// that is told, and where the lock was to be written refused.
 fn checked<'a, R: Files + AllocGlobal>(
     rt: &R,
     paths: &Paths<'_>,

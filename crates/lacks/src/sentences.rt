@@ -74,8 +74,8 @@ fn lack_text(
     Ok(text)
 }
 
-/// Adds a note that tells why nothing fits a dependency, `note: nothing fits a ^2: this index has no such package`; none
-/// where all lines can be used and only none fits, or where some fits.
+/// Adds a note that tells why nothing fits a dependency, `note: nothing fits a ^2: this index has no such package`;
+/// none where all lines can be used and only none fits, or where some fits.
 ///
 /// # Errors
 /// As of `tell_lacks`.

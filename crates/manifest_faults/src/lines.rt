@@ -10,8 +10,8 @@ use toml::Table;
 /// Of how many dependencies the lines are looked for at most: each takes a reading of the whole manifest.
 const MOST_LINES: usize = 20;
 
-/// The lines on which dependencies stand, by the numbers that a manifest gives them and by what they are called; none of
-/// one whose line isn't certain, and of those behind the first twenty.
+/// The lines on which dependencies stand, by the numbers that a manifest gives them and by what they are called;
+/// none of one whose line isn't certain, and of those behind the first twenty.
 pub fn dependency_lines(
     alloc: Global,
     bytes: &[u8],

@@ -289,7 +289,8 @@ fn would_change<F: Folder>(
     Ok(outcome)
 }
 
-/// What becomes of a lock that is another one than the old: with `--locked` that is an error, and `--write` hands it on.
+/// What becomes of a lock that is another one than the old: with `--locked` that is an error, and `--write` hands it
+/// on.
 fn with_new_lock(
     alloc: Global,
     path: &str,

@@ -70,7 +70,8 @@ impl Said {
         Ok(())
     }
 
-    /// What Cargo refuses though it is no error here, to people, with the lines below it; where errors alone are told too.
+    /// What Cargo refuses though it is no error here, to people, with the lines below it; where errors alone are
+    /// told too.
     pub(crate) fn refused(&mut self, message: &str, below: &str) -> Result<(), AllocError> {
         write!(self.err, "warning: {message}\n{below}")
     }

@@ -15,8 +15,8 @@ use std::collections::BTreeMap;
 use std::str::from_utf8;
 use trees::{Scratch, Tree, TreeFault, as_text, member, read_text, root};
 
-/// A cycle of packages, if there is one, and each package that links to the library of another. Of the libraries nothing
-/// is found where the folder fails.
+/// A cycle of packages, if there is one, and each package that links to the library of another. Of the libraries
+/// nothing is found where the folder fails.
 pub fn refused_by_cargo<F: Folder>(
     alloc: Global,
     folder: &mut F,

@@ -55,7 +55,8 @@ fn cycle_sentence(
     Ok(text)
 }
 
-/// `Cargo refuses two packages with links = "z": zlib 1.0.0 and zlib-ng 1.0.0; `cargo relock why` tells what needs them`.
+/// `Cargo refuses two packages with links = "z": zlib 1.0.0 and zlib-ng 1.0.0; `cargo relock why` tells what needs
+/// them`.
 fn links_sentence(
     alloc: Global,
     library: &str,
@@ -116,7 +117,8 @@ fn push_linked(
     text.push('\n')
 }
 
-/// `demo needs a ^1; a 1.0.0 needs b ^1, and b 1.0.0 needs a ^1`: the way leads to the first package of the cycle on it.
+/// `demo needs a ^1; a 1.0.0 needs b ^1, and b 1.0.0 needs a ^1`: the way leads to the first package of the cycle on
+/// it.
 fn push_cycle(
     alloc: Global,
     text: &mut String,

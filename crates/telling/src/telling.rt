@@ -157,8 +157,8 @@ impl Whole<'_, '_> {
         text.push_str(".")
     }
 
-    /// What stands before what a step says, if reasons do: a comma, and where it is the end of the derivation what these
-    /// exclude of what the sentence at a place says, from which it goes on.
+    /// What stands before what a step says, if reasons do: a comma, and where it is the end of the derivation what
+    /// these exclude of what the sentence at a place says, from which it goes on.
     fn push_joint(
         &self,
         alloc: Global,
