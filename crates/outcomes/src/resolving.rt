@@ -285,7 +285,9 @@ fn would_change<F: Folder>(
             .unwrap_or((text.as_str(), ""));
         said.below(changes)?;
     }
-    said.note("`--write` in the place of `--locked` writes it")?;
+    if !wish.is_member {
+        said.note("`--write` in the place of `--locked` writes it")?;
+    }
     Ok(outcome)
 }
 

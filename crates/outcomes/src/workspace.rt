@@ -122,9 +122,10 @@ pub fn warn_of_workspace(
     match membership {
         Membership::Member => {
             let text = format!(in alloc;
-                "this is no answer for the workspace of {workspace}, of which this package is a member: Cargo locks all members together"
+                "this package is a member of the workspace of {workspace}, and Cargo locks all members together: this answer is for the package alone"
             )?;
-            said.warning("workspace", text.as_str())
+            said.warning("workspace", text.as_str())?;
+            said.note("`cargo update --workspace` locks the workspace")
         }
         Membership::Stranger => {
             let text = format!(in alloc;
@@ -134,7 +135,8 @@ pub fn warn_of_workspace(
             let text = format!(in alloc;
                 "add `{below}` to `members` or `exclude` there, or an empty `[workspace]` to {manifest}"
             )?;
-            said.note(text.as_str())
+            said.note(text.as_str())?;
+            said.note("this answer is for the package alone, hence its status")
         }
         Membership::Unknown => {
             let text = format!(in alloc;
