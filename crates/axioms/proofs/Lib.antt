@@ -1,1 +1,6 @@
 pub mod WantsFeature
+pub mod Asked
+pub mod Recorded
+pub mod Featured
+pub mod PairLemmas
+pub mod GatherLemmas

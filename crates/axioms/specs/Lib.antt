@@ -1,2 +1,5 @@
 pub mod GatheredViews
 pub mod WantsFeature
+pub mod Asking
+pub mod Gathered
+pub mod Pairs

@@ -6,12 +6,11 @@ ghost use Rattle.features.specs.EntryViews.{entry_view};
 ghost use Rattle.model.specs.Vertices.{version_of};
 ghost use Rattle.refutations.specs.Causes.{dependency_at, enables, is_cause, of_enabling};
 ghost use Rattle.model.specs.Optional.{passes};
-ghost use Rattle.looking_up.specs.Views.{problem_view};
+ghost use Rattle.lookups.specs.Views.{problem_view};
 
 use crate::entries::has_same;
-use causes::enables;
 use features::{Entry, FeatureName, PackageName};
-use looking_up::{Problem, dependency_at, entries_of};
+use lookups::{Problem, dependency_at, enables, entries_of};
 use semver::Version;
 use vertices::OwnerRef;
 

@@ -2,19 +2,19 @@
 
 ghost use Rattle.std.specs.Prelude.{◌≡◌, IfOk};
 ghost use Rattle.catalogue.specs.Problems.{problem_in};
-ghost use Rattle.known_pairs.specs.Gathered.{is_known_feature};
-ghost use Rattle.causes.specs.NumbersViews as numbered;
+ghost use Rattle.axioms.specs.Gathered.{is_known_feature};
+ghost use Rattle.lookups.specs.NumbersViews as numbered;
 ghost use Rattle.instances.specs.KeptViews as known;
-ghost use Rattle.known_pairs.specs.Pairs.{HasThose};
-ghost use Rattle.looking_up.specs.Views.{problem_view};
+ghost use Rattle.axioms.specs.Pairs.{HasThose};
+ghost use Rattle.lookups.specs.Views.{problem_view};
 
+use crate::gathering::known_features;
+use crate::pairs::Pairs;
 use catalogue::Catalogue;
-use causes::Numbers;
 use classes::Class;
 use features::DependencyParts;
 use instances::Kept;
-use known_pairs::{Pairs, known_features};
-use looking_up::Problem;
+use lookups::{Numbers, Problem};
 use manifest::Manifest;
 use std::alloc::{AllocError, Global};
 use vertices::OwnerRef;

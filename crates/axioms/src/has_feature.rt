@@ -5,14 +5,14 @@ ghost use Rattle.std.specs.List.{list_any};
 ghost use Rattle.classes.specs.Classes.{class_view};
 ghost use Rattle.model.specs.Vertices.{class_candidates};
 ghost use Rattle.refutations.specs.Causes.{has_feature_vertex};
-ghost use Rattle.known_pairs.specs.Gathered.{is_known_feature};
+ghost use Rattle.axioms.specs.Gathered.{is_known_feature};
 ghost use Rattle.axioms.specs.GatheredViews.{problem_of};
-ghost use Rattle.looking_up.specs.Views.{problem_view};
+ghost use Rattle.lookups.specs.Views.{problem_view};
 
 use crate::gathered::Gathered;
 use classes::Class;
 use features::{FeatureName, PackageName};
-use looking_up::{Problem, class_versions};
+use lookups::{Problem, class_versions};
 use semver::Version;
 
 /// Whether a candidate is of the class, and some candidate has the feature or some dependency asks for it.

@@ -3,15 +3,14 @@
 ghost use Rattle.std.specs.Prelude.{◌≡◌, IfOk};
 ghost use Rattle.vertices.specs.Kinds.{kind_view};
 ghost use Rattle.refutations.specs.Instances.{is_instance, is_its};
-ghost use Rattle.named_terms.specs.CauseViews.{cause_view};
+ghost use Rattle.lookups.specs.CauseViews.{cause_view};
 ghost use Rattle.axioms.specs.GatheredViews.{problem_of};
-ghost use Rattle.named_terms.specs.Views.{term_views};
+ghost use Rattle.lookups.specs.TermViews.{term_views};
 
 use crate::gathered::Gathered;
 use crate::kinds::is_cause;
-use causes::cause_in;
 use instances::instance_terms;
-use named_terms::{Cause, Term, same_terms};
+use lookups::{Cause, Term, cause_in, same_terms};
 use std::alloc::{AllocError, Global};
 use vertices::Kind;
 

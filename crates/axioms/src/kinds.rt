@@ -5,8 +5,8 @@ ghost use Rattle.semver.specs.Identifiers.{parts_of};
 ghost use Rattle.classes.specs.Classes.{class_view};
 ghost use Rattle.refutations.specs.Causes.{is_cause, of_asking, of_entry, of_need, of_target};
 ghost use Rattle.vertices.specs.RefViews.{owner_ref_view};
-ghost use Rattle.looking_up.specs.Views.{problem_view};
-ghost use Rattle.named_terms.specs.CauseViews.{cause_view};
+ghost use Rattle.lookups.specs.Views.{problem_view};
+ghost use Rattle.lookups.specs.CauseViews.{cause_view};
 ghost use Rattle.axioms.specs.GatheredViews.{problem_of};
 
 use crate::entries::{has_asking, has_feature};
@@ -18,8 +18,7 @@ use crate::wants_feature::{is_ask, is_list};
 use crate::weak_feature::is_weak;
 use classes::Class;
 use features::{FeatureName, PackageName};
-use looking_up::{Problem, dependency_at, entries_of, is_needed};
-use named_terms::Cause;
+use lookups::{Cause, Problem, dependency_at, entries_of, is_needed};
 use semver::Version;
 use vertices::OwnerRef;
 

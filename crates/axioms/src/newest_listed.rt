@@ -11,7 +11,7 @@ ghost use Rattle.axioms.specs.GatheredViews.{problem_of};
 use crate::gathered::Gathered;
 use classes::Class;
 use features::DependencyParts;
-use looking_up::dependency_at;
+use lookups::dependency_at;
 use vertices::OwnerRef;
 
 pub(crate) fn is_newest<'a>(

@@ -11,16 +11,16 @@ ghost use Rattle.model.specs.Summary as model;
 ghost use Rattle.refutations.specs.Causes.{is_cause, lists_feature, of_ask, of_list, asks_for, root_asks_for};
 ghost use Rattle.refutations.specs.Causes.{same_entry, same_pair, some_entry};
 ghost use Rattle.vertices.specs.RefViews.{owner_ref_view};
-ghost use Rattle.looking_up.specs.Views.{problem_view};
+ghost use Rattle.lookups.specs.Views.{problem_view};
 ghost use Rattle.axioms.specs.GatheredViews.{problem_of};
-ghost use Rattle.known_pairs.specs.Asking.{row_names};
+ghost use Rattle.axioms.specs.Asking.{row_names};
 ghost use Rattle.axioms.specs.WantsFeature.{row_asks};
 
 use crate::entries::{asks_for, has_asking};
 use crate::gathered::Gathered;
 use classes::Class;
 use features::{DependencyParts, Entry, FeatureName, FeatureTable, PackageName};
-use looking_up::{Problem, brings, dependency_at};
+use lookups::{Problem, brings, dependency_at};
 use semver::Version;
 use vertices::OwnerRef;
 

@@ -12,7 +12,7 @@ use crate::entries::has_weak;
 use crate::gathered::Gathered;
 use classes::{Class, same_class};
 use features::{DependencyParts, FeatureName, PackageName};
-use looking_up::{dependency_at, entries_of};
+use lookups::{dependency_at, entries_of};
 use semver::Version;
 use vertices::OwnerRef;
 

@@ -1,16 +1,15 @@
 //! What a command ends with, by the files that it reads.
 
+use crate::counted::Counted;
 use crate::failure::Failure;
+use crate::watch::Watch;
 use features::PackageName;
 use index_reader::{DiskFolder, index_path};
 use outcomes::{
-    Outcome, Pinned, Question, Said, Wish, has_workspace, no_index, precise_in, precise_told,
-    question_in, resolve_told, skips_told, skips_told_of_all, standing_of, tell_fetched, tell_read,
-    tell_time, told_fault, update_told, verify_told, warn_of_workspace, why_told,
-};
-use progress::{Counted, Watch};
-use project_files::{
-    Bytes, IndexFolder, Paths, ReadFault, manifests_above, paths_below, read_files,
+    Bytes, IndexFolder, Outcome, Paths, Pinned, Question, ReadFault, Said, Wish, has_workspace,
+    manifests_above, no_index, paths_below, precise_in, precise_told, question_in, read_files,
+    resolve_told, skips_told, skips_told_of_all, standing_of, tell_fetched, tell_read, tell_time,
+    told_fault, update_told, verify_told, warn_of_workspace, why_told,
 };
 use resolver::Fault;
 use semver::Version;

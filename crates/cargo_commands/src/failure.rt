@@ -1,6 +1,6 @@
 //! Why a run fails.
 
-use project_files::{ReadFault, WriteFault};
+use outcomes::{ReadFault, WriteFault};
 use resolver::Fault;
 use std::alloc::AllocError;
 use std::{fmt, io};

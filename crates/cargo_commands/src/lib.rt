@@ -8,13 +8,34 @@
 //! With `-q` errors alone are told, of `why` and `skips` too: then the status is the answer.
 //!
 //! Nothing is stated of it: what is proved is what the calls promise, and `worked_cases` plays whole runs.
+//!
+//! What words ask for is read by clap (`reading.rt`), lines are painted as Cargo paints them (`painter.rt`), and how far
+//! a run has come is told while it asks (`watch.rt`).
 #![tactic(auto)]
 
 mod asking;
+mod command;
+mod counted;
 mod failure;
+mod manner;
+mod paint;
+mod painter;
+mod parts;
 mod places;
+mod reading;
 mod running;
+mod seen;
 mod showing;
+mod shown;
+mod teller;
+mod watch;
 
+pub use counted::Counted;
+pub use manner::{Color, Manner, MessageFormat, color_in};
+pub use painter::{Painter, Show};
+pub use reading::{Asked, CargoWords, Changing, Places, own_words, read_words};
 pub use running::{run, without_arguments};
+pub use seen::Seen;
 pub use showing::Surroundings;
+pub use watch::Watch;
+pub use words::WordsFault;

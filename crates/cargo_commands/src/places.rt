@@ -1,11 +1,10 @@
 //! Where the files of a command are.
 
 use crate::failure::Failure;
+use crate::reading::Places;
 use crate::showing::Surroundings;
-use cargo_words::Places;
 use catalogue::is_source;
-use outcomes::CRATES_IO;
-use project_files::{Paths, fetched_index, is_missing, lock_at};
+use outcomes::{CRATES_IO, Paths, fetched_index, is_missing, lock_at};
 use std::alloc::AllocError;
 use std::rt::Files;
 

@@ -2,17 +2,18 @@
 
 use crate::asking::{precise_at, resolve_at, skips_at, skips_at_all, update_at, verify_at, why_at};
 use crate::failure::Failure;
+use crate::manner::MessageFormat;
+use crate::painter::Painter;
 use crate::places::paths_of;
+use crate::reading::{Asked, CargoWords, Changing, own_words, read_words};
 use crate::showing::{Shows, Surroundings, painted, shows_of};
-use cargo_words::{Asked, CargoWords, Changing, MessageFormat, WordsFault, own_words, read_words};
-use colors::Painter;
-use outcomes::{FAILED, Form, Outcome, Said, Wish};
-use progress::Watch;
-use project_files::{Paths, is_missing, replace_lock};
+use crate::watch::Watch;
+use outcomes::{FAILED, Form, Outcome, Paths, Said, Wish, is_missing, replace_lock};
 use std::alloc::{AllocError, Global};
 use std::io::{self, Eprint, ErrorKind, Write};
 use std::rt::Files;
 use std::time::Clock;
+use words::WordsFault;
 
 /// Does what the words ask, the program's name first, and answers the exit status.
 ///

@@ -1,8 +1,8 @@
 //! How what is told is shown: in colors or without, or errors alone.
 
 use crate::failure::Failure;
-use cargo_words::{Color, Manner, MessageFormat, color_in};
-use colors::{Painter, Show};
+use crate::manner::{Color, Manner, MessageFormat, color_in};
+use crate::painter::{Painter, Show};
 use std::alloc::Global;
 use std::io::Write;
 

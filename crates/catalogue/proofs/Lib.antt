@@ -21,3 +21,4 @@ pub mod LawsSelections
 pub mod LawsCatalogues
 pub mod LawsIndexes
 pub mod LawsChecksums
+pub mod Valid

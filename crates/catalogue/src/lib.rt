@@ -13,6 +13,8 @@
 //! run which needs just as many passes. Names lie in a list with a map of `std` and not in one of `indexmap`, since
 //! each crate above would read all that is stated of `indexmap`.
 //!
+//! Why a refusal is right, of every manifest and every loaded index, is said by laws too (`refusals.rt`).
+//!
 //! A layer above may rely on this: each reader of a `Catalogue` is exact; names stand once, versions rise, at most
 //! 65,535 a name, and feature tables know their features, so that the laws of `model` hold with no premise
 //! (`catalogues_are_well_formed`); names and versions are valid ones, and dependencies have numbers of 32 bits, for no
@@ -31,6 +33,7 @@ mod loading;
 mod names;
 mod old_lock;
 mod places;
+mod refusals;
 mod source;
 mod store;
 
@@ -46,5 +49,9 @@ pub use laws::{
 pub use loading::load;
 pub use old_lock::is_locked;
 pub use places::place_of;
+pub use refusals::{
+    accepted_derivations_refute, axioms_are_sound, parts_are_valid,
+    unbroken_assignments_have_selections, unbroken_assignments_select,
+};
 pub use source::{Source, SourceFault, is_source};
 pub use store::{Catalogue, Prefer};

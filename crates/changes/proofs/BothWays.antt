@@ -6,9 +6,9 @@ use Rattle.std.proofs.lemmas.Bool.{and_from, and_parts, cases_lt, eqb-true, or_c
 use Rattle.std.proofs.lemmas.List.{append_assoc, length-map}
 use Rattle.std.proofs.lemmas.List.Elements.{All-append, All-map, All-nil, All-weaker}
 use Rattle.std.proofs.lemmas.List.Elements.{Contains-append_cases, Contains-append_left, Contains-append_right}
-use Rattle.chains.specs.declared.rule.Rule.{Rule}
-use Rattle.chains.specs.Chains.{AreBelow, IsGiven, has}
-use Rattle.chains.specs.Chains.IsGiven.{begins, follows}
+use Rattle.facts.specs.declared.rule.Rule.{Rule}
+use Rattle.facts.specs.Chains.{AreBelow, IsGiven, has}
+use Rattle.facts.specs.Chains.IsGiven.{begins, follows}
 use Rattle.model.proofs.Lists.{in_cons, in_map, in_none, to_map}
 use Rattle.model.specs.Content.{Content, Package, list_if}
 use Rattle.model.specs.Optional.{passes}

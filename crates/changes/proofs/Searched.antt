@@ -9,9 +9,9 @@ use Rattle.std.proofs.lemmas.List.{length-replicate}
 use Rattle.std.proofs.lemmas.List.Elements.{All-head, All-nil, All-tail, Contains-append_cases, Contains-append_left}
 use Rattle.std.proofs.lemmas.List.Elements.{Contains-append_right, Contains-get_or}
 use Rattle.std.proofs.lemmas.Option.{none-some, same_Some, slice_get_within}
-use Rattle.chains.specs.Chains.{has}
-use Rattle.chains.specs.Worklists.{unmarked}
-use Rattle.chains.proofs.ListLemmas.{in_cons, in_none}
+use Rattle.facts.specs.Chains.{has}
+use Rattle.facts.specs.Worklists.{unmarked}
+use Rattle.facts.proofs.ListLemmas.{in_cons, in_none}
 use Rattle.model.specs.Content.{Content, Package, list_if}
 use Rattle.model.specs.Optional.{passes}
 use Rattle.model.specs.WellFormed.{IsContent}

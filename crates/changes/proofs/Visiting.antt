@@ -6,8 +6,8 @@ use Rattle.std.specs.List.{slice_get}
 use Rattle.std.proofs.lemmas.Bool.{cases_Bool, eq-eqb, eqb-true, or_cases}
 use Rattle.std.proofs.lemmas.List.{length-append}
 use Rattle.std.proofs.lemmas.Option.{slice_get_within}
-use Rattle.chains.specs.Chains.{has}
-use Rattle.chains.proofs.WorklistLemmas.{new_or_old, one_fewer}
+use Rattle.facts.specs.Chains.{has}
+use Rattle.facts.proofs.WorklistLemmas.{new_or_old, one_fewer}
 use Rattle.model.specs.Content.{Content, Package}
 use Rattle.model.proofs.Places.{get_more, get_push, get_push_cases}
 use Rattle.changes.specs.Ways.{lists}

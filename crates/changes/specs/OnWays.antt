@@ -1,8 +1,8 @@
 -- The dependencies on ways through a lock.
 use Rattle.std.specs.Prelude.{◌≡◌, ◌↔◌, ◌&&◌, ℕ, zero, suc, Bool, true, List, [], ◌∷◌, ◌++◌, map, filter, length}
 use Rattle.std.specs.Prelude.{slice_get}
-use Rattle.chains.specs.Chains.{IsGiven, has}
-use Rattle.chains.specs.declared.rule.Rule.{Rule}
+use Rattle.facts.specs.Chains.{IsGiven, has}
+use Rattle.facts.specs.declared.rule.Rule.{Rule}
 use Rattle.model.specs.Content.{Content, Package, list_if}
 use Rattle.changes.specs.Ways.{is_way, lists}
 

@@ -3,8 +3,8 @@
 use Rattle.std.specs.Prelude.{◌≡◌, ◌<◌, ◌≤◌, ◌+◌, ℕ, zero, suc, nat_eq, Bool, true, if◌then◌else◌, List, [], ◌∷◌, ◌++◌}
 use Rattle.std.specs.Prelude.{Some, cond, length, slice_get, slice_set}
 use Rattle.std.specs.List.{list_any}
-use Rattle.chains.specs.Chains.{has}
-use Rattle.chains.specs.Worklists.{unmarked}
+use Rattle.facts.specs.Chains.{has}
+use Rattle.facts.specs.Worklists.{unmarked}
 use Rattle.model.specs.Content.{Content, Package}
 use Rattle.model.specs.Optional.{passes}
 use Rattle.changes.specs.Ways.{lists}

@@ -3,14 +3,14 @@
 ghost use Rattle.std.specs.Prelude.{◌≡◌, ◌++◌, filter, length, map, option_map, IfOk, OnOk};
 ghost use Rattle.semver.specs.Identifiers.{parts_of};
 ghost use Rattle.lockfile.specs.Views.{package_views};
-ghost use Rattle.chains.specs.Chains.{AreBelow, has};
+ghost use Rattle.facts.specs.Chains.{AreBelow, has};
 ghost use Rattle.changes.specs.OnWays.{AreBetween, AreOnWays, all_pairs, are_both, pairs_at, rule};
 ghost use Rattle.changes.specs.OnWays.{rules_ahead, rules_back};
 ghost use Rattle.changes.specs.Ways.{is_meant, is_own};
 
 use crate::searching::list_at;
 use crate::ways::{is_meant, is_own};
-use chains::{Rule, close};
+use facts::{Rule, close};
 use features::PackageName;
 use lockfile::{LockContent, Package};
 use manifest::Manifest;

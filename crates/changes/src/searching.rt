@@ -9,7 +9,7 @@ ghost use Rattle.model.specs.Content.{Content, list_if};
 ghost use Rattle.model.specs.Optional.{passes};
 ghost use Rattle.model.specs.Content as model;
 ghost use Rattle.model.specs.WellFormed.{IsContent};
-ghost use Rattle.chains.specs.Chains.{has};
+ghost use Rattle.facts.specs.Chains.{has};
 ghost use Rattle.changes.specs.Searches.{AreBehind, AreLed, IsBehind, IsLed, IsSearched, is_end, places_below};
 ghost use Rattle.changes.specs.Searches.{seen_with, visited};
 ghost use Rattle.changes.specs.Ways.{IsFound, is_meant, is_own, is_way};

@@ -14,7 +14,7 @@ use Rattle.derivations.specs.Derivations.{term_cmp}
 use Rattle.derivations.specs.Tables.{TablesView, term_at, terms_at, vertex_at}
 use Rattle.derivations.specs.declared.step.Term.{Term}
 use Rattle.vertices.specs.Texts.{vertex_text}
-use Rattle.named_terms.proofs.Searching.{search_ends, search_finds, sorted_map}
+use Rattle.lookups.proofs.Searching.{search_ends, search_finds, sorted_map}
 use Rattle.checker.specs.Names.{AreVertexRanks, named_set, rank_at}
 
 -- ---- a search by what says the same of each element

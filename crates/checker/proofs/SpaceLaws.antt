@@ -14,10 +14,10 @@ use Rattle.model.specs.Vertices.{class_candidates, dep_classes, dep_space}
 use Rattle.manifest.specs.Manifests.{ManifestView}
 use Rattle.catalogue.specs.Problems.{problem_in}
 use Rattle.catalogue.specs.Stores.{CatalogueView, candidates_at, rows_by_name}
-use Rattle.looking_up.specs.Ranges.{is_of}
+use Rattle.lookups.specs.Ranges.{is_of}
 use Rattle.catalogue.proofs.Lookups.{candidates_are}
-use Rattle.looking_up.proofs.Classed.{all_classed}
-use Rattle.named_terms.proofs.SetLaws.{all_map, all_filter}
+use Rattle.lookups.proofs.Classed.{all_classed}
+use Rattle.lookups.proofs.SetLaws.{all_map, all_filter}
 use Rattle.instances.proofs.Spaces.{classes_all}
 use Rattle.instances.specs.FullTerms.{has_if_matched}
 

@@ -4,7 +4,7 @@ ghost use Rattle.std.specs.Prelude.{◌≤◌, length};
 ghost use Rattle.checker.specs.Names.{AreVertexRanks};
 
 use derivations::{Tables, Term};
-use named_terms::StateSet;
+use lookups::StateSet;
 use std::cmp::Ordering;
 use vertices::Vertex;
 

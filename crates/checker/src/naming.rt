@@ -16,7 +16,7 @@ use crate::names::Names;
 use crate::ranks::ranks_of;
 use crate::states::read_states;
 use derivations::{Step, Tables, Term};
-use named_terms::StateSet;
+use lookups::StateSet;
 use std::alloc::{AllocError, Global};
 use vertices::Vertex;
 

@@ -8,7 +8,7 @@ ghost use Rattle.refutations.specs.Instances.{is_instance};
 ghost use Rattle.vertices.specs.Kinds.{kind_view};
 ghost use Rattle.vertices.specs.declared.kind.Kind as kinds;
 ghost use Rattle.axioms.specs.GatheredViews.{problem_of};
-ghost use Rattle.named_terms.specs.Views.{term_view, term_views};
+ghost use Rattle.lookups.specs.TermViews.{term_view, term_views};
 ghost use Rattle.derivations.specs.Tables.{term_at, terms_at};
 ghost use Rattle.derivations.specs.declared.step.Origin.TheVariants as origin;
 ghost use Rattle.checker.specs.Prepared.{IsPrepared, IsPreparedBy};
@@ -96,7 +96,7 @@ fn terms_in<'a>(
     alloc: Global,
     names: &Names<'a>,
     terms: &[Term],
-) -> Result<Vec<named_terms::Term<'a>>, AllocError>
+) -> Result<Vec<lookups::Term<'a>>, AllocError>
     requires { AllByRecursion (IsReady names.now) terms.now }
     ensures { IfOk result (λ v. term_views v.items ≡ terms_at (tables_of names.now) terms.now) }
 {
@@ -111,11 +111,11 @@ fn term_of<'a>(
     alloc: Global,
     names: &Names<'a>,
     term: &Term,
-) -> Result<named_terms::Term<'a>, AllocError>
+) -> Result<lookups::Term<'a>, AllocError>
     requires { IsReady names.now term.now }
     ensures { IfOk result (λ t. term_view t ≡ term_at (tables_of names.now) term.now) }
 {
-    Ok(named_terms::Term {
+    Ok(lookups::Term {
         vertex: names.vertex(term.vertex).borrowed(),
         states: names.set(term.states).copy(alloc)?,
     })

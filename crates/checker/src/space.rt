@@ -9,7 +9,7 @@ ghost use Rattle.model.specs.Vertices as model;
 ghost use Rattle.classes.specs.Classes.{class_view};
 ghost use Rattle.features.specs.Views.{dependency_view, requirement_view};
 ghost use Rattle.axioms.specs.GatheredViews.{problem_of};
-ghost use Rattle.looking_up.specs.Views.{problem_view};
+ghost use Rattle.lookups.specs.Views.{problem_view};
 ghost use Rattle.vertices.specs.Views.{vertex_view};
 ghost use Rattle.vertices.specs.RefViews.{state_ref_view};
 ghost use Rattle.instances.specs.FullTerms.{has_if_matched};
@@ -17,8 +17,7 @@ ghost use Rattle.instances.specs.FullTerms.{has_if_matched};
 use axioms::Gathered;
 use classes::{Class, is_matched};
 use features::DependencyParts;
-use looking_up::{Problem, class_versions, dependency_at};
-use named_terms::StateSet;
+use lookups::{Problem, StateSet, class_versions, dependency_at};
 use semver::{Version, VersionReq};
 use vertices::{StateRef, Vertex};
 

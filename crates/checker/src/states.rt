@@ -6,7 +6,7 @@ ghost use Rattle.vertices.specs.Orders.{state_cmp};
 ghost use Rattle.derivations.specs.Tables.{AreStatesOf, states_at};
 
 use derivations::{Tables, states_in};
-use named_terms::StateSet;
+use lookups::StateSet;
 use std::alloc::{AllocError, Global};
 
 /// The states of these numbers.

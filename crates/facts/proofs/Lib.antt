@@ -8,3 +8,7 @@ pub mod Members
 pub mod Sound
 pub mod Complete
 pub mod Whole
+pub mod ListLemmas
+pub mod WorklistLemmas
+pub mod Found
+pub mod Followed

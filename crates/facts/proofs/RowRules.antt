@@ -3,7 +3,7 @@ use Rattle.std.proofs.Common.{◌≡◌, ℕ, suc, ◌+◌, List, [], ◌∷◌,
 use Rattle.std.proofs.Common.{ap, ap₂, ◌∙◌, arith}
 use Rattle.std.specs.List.{flat_map}
 use Rattle.std.proofs.lemmas.List.{append_assoc}
-use Rattle.chains.specs.declared.rule.Rule.{Rule}
+use Rattle.facts.specs.declared.rule.Rule.{Rule}
 use Rattle.model.specs.Summary.{Entry, Table, entries_at}
 use Rattle.model.specs.Tables.{IsInOrder}
 use Rattle.features.proofs.PlaceLemmas.{place_of-row, entries_at-row}

@@ -5,9 +5,9 @@ use Rattle.std.specs.List.{flat_map}
 use Rattle.std.proofs.lemmas.List.Elements.{Contains-append_cases}
 use Rattle.std.proofs.lemmas.Bool.{eqb-true}
 use Rattle.std.proofs.lemmas.Option.{same_Some}
-use Rattle.chains.specs.declared.rule.Rule.{Rule}
-use Rattle.chains.specs.Chains.{has, IsGiven}
-use Rattle.chains.specs.Chains.IsGiven.{begins, follows}
+use Rattle.facts.specs.declared.rule.Rule.{Rule}
+use Rattle.facts.specs.Chains.{has, IsGiven}
+use Rattle.facts.specs.Chains.IsGiven.{begins, follows}
 use Rattle.model.specs.Summary.{Summary, Dependency, Entry, feature, dependency, dependency_feature, weak_feature}
 use Rattle.model.specs.Summary.{Table, same_text, has_feature, entries_at, asked_of_target}
 use Rattle.model.specs.Facts.{Fact, here, on, enabled, Brings, Lists}

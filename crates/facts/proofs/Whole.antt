@@ -6,8 +6,8 @@ use Rattle.std.proofs.lemmas.List.{length-append, append_assoc, map-append, leng
 use Rattle.std.proofs.lemmas.List.Elements.{Contains-get_or}
 use Rattle.std.proofs.lemmas.Option.{slice_get_within, same_Some}
 use Rattle.std.proofs.lemmas.Result.{IfOk-weaker}
-use Rattle.chains.specs.declared.rule.Rule.{Rule}
-use Rattle.chains.specs.Chains.{has, IsGiven, AreBelow}
+use Rattle.facts.specs.declared.rule.Rule.{Rule}
+use Rattle.facts.specs.Chains.{has, IsGiven, AreBelow}
 use Rattle.model.specs.Summary.{Summary, Dependency, Table, has_feature}
 use Rattle.model.specs.Facts.{Fact, here, on, enabled}
 use Rattle.model.specs.Facts.Holds.{starts}

@@ -1,7 +1,7 @@
 -- What is read off the numbers that rules give.
 use Rattle.std.specs.Prelude.{◌≡◌, ◌↔◌, ℕ, Bool, true, List, map}
-use Rattle.chains.specs.Chains.{has, IsGiven}
-use Rattle.chains.specs.declared.rule.Rule.{Rule}
+use Rattle.facts.specs.Chains.{has, IsGiven}
+use Rattle.facts.specs.declared.rule.Rule.{Rule}
 use Rattle.facts.specs.FactNumbers.{FactNumbersView}
 use Rattle.facts.specs.RuleLists.{here_flags, lacks_flags, enabled_flags}
 use Rattle.facts.specs.declared.facts.Facts.{Facts}

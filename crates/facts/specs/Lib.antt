@@ -4,3 +4,10 @@ pub mod ByName
 pub mod FactNumbers
 pub mod RuleLists
 pub mod Answers
+pub mod Chains
+pub mod Lists
+pub mod Worklists
+pub use Rattle.model.specs.Search
+pub mod Nodes
+pub mod Built
+pub mod Followed

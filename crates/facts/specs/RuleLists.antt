@@ -2,8 +2,8 @@
 use Rattle.std.specs.Prelude.{ℕ, suc, Bool, not, ◌||◌, if◌then◌else◌, List, [], ◌∷◌, ◌++◌, map, Option, None, Some}
 use Rattle.std.specs.Prelude.{nat_eq, slice_get, unwrap_or, option_and_then}
 use Rattle.std.specs.List.{flat_map}
-use Rattle.chains.specs.Chains.{has}
-use Rattle.chains.specs.declared.rule.Rule.{Rule}
+use Rattle.facts.specs.Chains.{has}
+use Rattle.facts.specs.declared.rule.Rule.{Rule}
 use Rattle.model.specs.Summary.{Table, Entry, feature, dependency, dependency_feature, weak_feature, entries_at}
 use Rattle.model.specs.Summary.{asked_of_target}
 use Rattle.facts.specs.FactNumbers.{LinkView, FactNumbersView}

@@ -16,7 +16,7 @@ ghost use Rattle.facts.specs.RuleLists.{root_entries, root_table, entries_rules,
 ghost use Rattle.facts.specs.RuleLists.{package_rules, all_rules};
 
 use crate::fact_numbers::{FactNumbers, Link};
-use chains::Rule;
+use crate::rule::Rule;
 use features::{Entry, FeatureName, FeatureTable, PackageName};
 use std::alloc::{AllocError, Global};
 use std::cmp::Ordering;

@@ -3,3 +3,5 @@ pub use Rattle.selection.specs.Places
 pub mod Reasons
 pub mod Flaws
 pub mod Unsummed
+pub mod Lacks
+pub mod Views

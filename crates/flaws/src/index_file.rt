@@ -1,7 +1,7 @@
 //! What the file of a name has of a version that isn't there.
 
+use crate::package_file::IndexFile;
 use index_reader::SkipReason;
-use lacks::IndexFile;
 use semver::Version;
 use std::alloc::Global;
 use std::str::from_utf8;

@@ -14,6 +14,8 @@
 //! either whether what its list has is needed: such packages are counted. That a package at fault is yanked is told
 //! too, though that is no fault.
 //!
+//! Why nothing fits a dependency of a manifest is found beside it (`lack.rt`).
+//!
 //! A layer above may rely on this: `flaws_of` gives just the packages at which a condition fails, in the order of the
 //! lock, each with just what is wrong there; none of them exactly where the lock is a valid selection. Of the sentences
 //! nothing is stated.
@@ -23,21 +25,33 @@ mod feature_sentences;
 mod flawed;
 mod index_file;
 mod judging;
+mod lack;
+mod lack_sentences;
 mod list_sentences;
 mod lists;
+mod missing;
 mod missing_version;
 mod naming;
 mod no_candidate;
+mod package_file;
+mod reason;
 mod sentences;
+mod similar;
+mod slips;
 mod unsummed;
 mod versions;
 
 pub use feature_sentences::{Lacking, lacking_features};
 pub use flawed::Flawed;
 pub use judging::{Judged, flaws_of};
+pub use lack::{Lack, lack_of};
+pub use lack_sentences::{LackTold, note_lack, tell_lacks};
 pub use list_sentences::dependency_at;
+pub use missing::{Missing, look_for};
 pub use missing_version::{MissingTold, MissingVersion, listed_in, why_lost, why_missing};
 pub use naming::last_serving;
 pub use no_candidate::NoCandidate;
+pub use package_file::{IndexFile, file_of, out_of_memory};
+pub use reason::{NothingFits, nothing_fits};
 pub use sentences::{has_metadata, tell_flaws};
 pub use unsummed::without_checksums;

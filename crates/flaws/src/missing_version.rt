@@ -2,10 +2,10 @@
 
 use crate::flawed::Flawed;
 use crate::index_file::{newest_in, skipped_in};
+use crate::package_file::{IndexFile, file_of, out_of_memory};
 use catalogue::Catalogue;
 use features::PackageName;
 use index_reader::{Folder, FolderFault, SkipReason};
-use lacks::{IndexFile, file_of, out_of_memory};
 use lockfile::Package;
 use semver::Version;
 use std::alloc::{AllocError, Global};

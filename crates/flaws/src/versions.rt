@@ -3,9 +3,9 @@
 use crate::missing_version::{MissingTold, MissingVersion, why_missing};
 use crate::naming::Named;
 use crate::no_candidate::NoCandidate;
+use crate::package_file::out_of_memory;
 use catalogue::Catalogue;
 use index_reader::{Folder, FolderFault};
-use lacks::out_of_memory;
 use lockfile::Package;
 use std::alloc::{AllocError, Global};
 

@@ -26,11 +26,11 @@ use Rattle.numbering.specs.Numberings.{Numbering, Says, members_at}
 use Rattle.numbering.specs.Pairs.{AreGiven, AreOfPair, Given, IsGivenAt, Pair}
 use Rattle.numbering.proofs.Needing.{still_at}
 use Rattle.model.proofs.Lists.{in_cons, in_none, in_first, in_rest}
-use Rattle.searching.specs.Searching.{AreMore, HasSpaces, IsOfNew, IsSeen}
-use Rattle.searching.specs.Turning.{IsAdding}
-use Rattle.searching.specs.Following as following
-use Rattle.searching.proofs.Guides.{lone_one, spaces_wider}
-use Rattle.searching.proofs.Seen.{seen_wider}
+use Rattle.guiding.specs.Searching.{AreMore, HasSpaces, IsOfNew, IsSeen}
+use Rattle.guiding.specs.Turning.{IsAdding}
+use Rattle.guiding.specs.Following as following
+use Rattle.guiding.proofs.Guides.{lone_one, spaces_wider}
+use Rattle.guiding.proofs.Seen.{seen_wider}
 use Rattle.guiding.specs.Guides.{AreAll, AreFirst, AreStored, CanAsk, EncodedView, GoesOn, IsAsking, IsOfInstance}
 use Rattle.guiding.specs.Guides.{IsPut, as_entry}
 use Rattle.guiding.specs.Guides.{asked_at, asked_of, on_trail, late_with, left_with, with_given}
@@ -202,7 +202,7 @@ module _ {v i : ℕ} {old new : EncodedView} {t wide : TrailView} {es more : Lis
   zero_asked : (j u : ℕ) → j ≡ 0 → asked_of new.asked u j ≡ true
   zero_asked j u e = subst (λ k. asked_of new.asked u k ≡ true) (sym e) refl
 
-  pub lone : Rattle.searching.specs.Searching.LoneAsked (length t.sets) (asked_of new.asked) wide.sets
+  pub lone : Rattle.guiding.specs.Searching.LoneAsked (length t.sets) (asked_of new.asked) wide.sets
   lone u j ge within only =
       let one = lone_one (map length old.asked) a.came t wide spaced a.wider u j ge only in
       let space_is = (spaces_wider (map length old.asked) a.came t wide spaced a.wider).each u in

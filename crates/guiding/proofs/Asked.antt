@@ -22,9 +22,9 @@ use Rattle.numbering.proofs.CausesLaws.{first_there}
 use Rattle.model.specs.Axioms.{IsVertex}
 use Rattle.model.proofs.Members.{element}
 use Rattle.numbering.specs.declared.known_problem.KnownProblem.{KnownProblem}
-use Rattle.searching.specs.Searching.{HasSpaces, IsOnly, IsSeen, Pairs}
-use Rattle.searching.specs.Searching as searching
-use Rattle.searching.proofs.Seen.{seen_all}
+use Rattle.guiding.specs.Searching.{HasSpaces, IsOnly, IsSeen, Pairs}
+use Rattle.guiding.specs.Searching as searching
+use Rattle.guiding.proofs.Seen.{seen_all}
 use Rattle.guiding.specs.Guides.{AreAll, AreFirst, EncodedView, IsAsking, IsCome, IsEncoding, encoded_view, on_trail}
 use Rattle.guiding.specs.Guides.{marked, with_given}
 use Rattle.guiding.specs.Remaining.{spaces_of}

@@ -7,12 +7,12 @@ use Rattle.propagation.specs.Trails.{TrailView}
 use Rattle.propagation.specs.Promises.{IsTrail}
 use Rattle.model.specs.Content.{Content, Problem}
 use Rattle.numbering.specs.Numberings.{IsNumbering}
-use Rattle.searching.specs.Searching.{HasSpaces, Pairs}
-use Rattle.searching.specs.Turning.{HasEnded}
-use Rattle.searching.specs.Following as following
-use Rattle.searching.specs.Following.{IsLeft, IsSelection}
-use Rattle.searching.specs.declared.turns.Answer.{Answer}
-use Rattle.searching.specs.declared.turns.Answer.TheVariants.{Selection, Unsolvable}
+use Rattle.guiding.specs.Searching.{HasSpaces, Pairs}
+use Rattle.guiding.specs.Turning.{HasEnded}
+use Rattle.guiding.specs.Following as following
+use Rattle.guiding.specs.Following.{IsLeft, IsSelection}
+use Rattle.guiding.specs.declared.turns.Answer.{Answer}
+use Rattle.guiding.specs.declared.turns.Answer.TheVariants.{Selection, Unsolvable}
 use Rattle.guiding.specs.Guides.{AreStored, EncodedView, Follows, GoesOn, HasBegun, HasFound, HasSearched, IsDone}
 use Rattle.guiding.specs.Guides.{IsOfInstance, asked_of, on_trail}
 use Rattle.guiding.specs.Remaining.{spaces_of}

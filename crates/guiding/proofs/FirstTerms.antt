@@ -30,7 +30,7 @@ use Rattle.numbering.specs.Numberings.{Numbering, Says, members_at}
 use Rattle.numbering.specs.Pairs.{Pair, first_pair, owner_pair}
 use Rattle.numbering.specs.Assignments.{state_at}
 use Rattle.numbering.proofs.Distinct.{states_once}
-use Rattle.searching.specs.Searching.{IsOnly}
+use Rattle.guiding.specs.Searching.{IsOnly}
 
 -- ---- the first of a cause's terms
 

@@ -29,10 +29,10 @@ use Rattle.numbering.specs.Pairs.{AreOfPair, Given, Pair}
 use Rattle.numbering.proofs.Distinct.{states_once}
 use Rattle.numbering.proofs.Needing.{still_at}
 use Rattle.numbering.proofs.Sound.{breaks_none, has_assignment}
-use Rattle.searching.specs.Searching.{HasSpaces}
-use Rattle.searching.specs.Following.{IsLeft, IsSelection, KeepsFollowed}
-use Rattle.searching.specs.declared.turns.Answer.{Answer}
-use Rattle.searching.specs.declared.turns.Answer.TheVariants.{Selection, Unsolvable}
+use Rattle.guiding.specs.Searching.{HasSpaces}
+use Rattle.guiding.specs.Following.{IsLeft, IsSelection, KeepsFollowed}
+use Rattle.guiding.specs.declared.turns.Answer.{Answer}
+use Rattle.guiding.specs.declared.turns.Answer.TheVariants.{Selection, Unsolvable}
 use Rattle.guiding.specs.Guides.{CanFollow, EncodedView, Follows, GoesOn, HasBegun, HasFollowed, IsAsking, IsFollowed}
 use Rattle.guiding.specs.Guides.{as_entry, on_trail}
 use Rattle.guiding.specs.Remaining.{spaces_of}

@@ -12,3 +12,17 @@ pub mod AbsentPairs
 pub mod Settling
 pub mod Starts
 pub mod Ended
+pub mod Counts
+pub mod Weights
+pub mod Ends
+pub mod Seen
+pub mod FollowedLoop
+pub mod Selections
+pub mod Each
+pub mod Falls
+pub mod Guides
+pub mod Owners
+pub mod Classed
+pub mod Led
+pub mod InContent
+pub mod Named

@@ -29,8 +29,8 @@ use Rattle.numbering.proofs.Absent.{instance_one_zero}
 use Rattle.numbering.proofs.Final.{breaks_not}
 use Rattle.numbering.proofs.Places.{number_at}
 use Rattle.numbering.proofs.Settled.{is_unbroken}
-use Rattle.searching.specs.Searching.{AllAsked, HasSpaces}
-use Rattle.searching.specs.Following as following
+use Rattle.guiding.specs.Searching.{AllAsked, HasSpaces}
+use Rattle.guiding.specs.Following as following
 use Rattle.guiding.specs.Guides.{first_in, AreStored, IsDone, IsOfInstance, IsPut, asked_of, on_trail}
 use Rattle.guiding.specs.Remaining.{spaces_of}
 use Rattle.guiding.proofs.Alone.{one_member}

@@ -20,12 +20,12 @@ use Rattle.numbering.specs.KnownProblem.{problem}
 use Rattle.numbering.specs.Numberings.{Numbering}
 use Rattle.numbering.specs.Pairs.{Given, IsGivenAt}
 use Rattle.numbering.specs.declared.known_problem.KnownProblem.{KnownProblem}
-use Rattle.searching.specs.Searching.{HasSpaces, IsSeen}
-use Rattle.searching.specs.Following as following
-use Rattle.searching.specs.Following.{IsLeft}
+use Rattle.guiding.specs.Searching.{HasSpaces, IsSeen}
+use Rattle.guiding.specs.Following as following
+use Rattle.guiding.specs.Following.{IsLeft}
 use Rattle.incompatibilities.specs.Counts.{combinations}
-use Rattle.searching.proofs.Counts.{no_combinations}
-use Rattle.searching.proofs.Guides.{spaces_wider}
+use Rattle.guiding.proofs.Counts.{no_combinations}
+use Rattle.guiding.proofs.Guides.{spaces_wider}
 use Rattle.guiding.specs.Guides.{CanFollow, Follows, HasBegun, IsCome, IsEncoding, IsOfInstance, IsPut, as_entry}
 use Rattle.guiding.specs.Guides.{asked_of, encoded_view, with_given}
 use Rattle.guiding.proofs.Adding.{given_at, given_of, of_all, said_long, with_given_is}

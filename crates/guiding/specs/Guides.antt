@@ -25,10 +25,10 @@ use Rattle.numbering.specs.Numberings.{IsGrown, IsNumbering, Numbering, Says, nu
 use Rattle.numbering.specs.Pairs.{AreOfPair, Given, IsGivenAt, Pair, first_pair}
 use Rattle.numbering.specs.declared.known_problem.KnownProblem.{KnownProblem}
 use Rattle.incompatibilities.specs.Counts.{combinations}
-use Rattle.searching.specs.Searching.{HasSpaces, IsOnly, IsRefutation, IsSeen, Pairs}
-use Rattle.searching.specs.declared.turns.Answer.{Answer}
-use Rattle.searching.specs.declared.turns.Answer.TheVariants.{Selection, Unsolvable}
-use Rattle.searching.specs.Following as following
+use Rattle.guiding.specs.Searching.{HasSpaces, IsOnly, IsRefutation, IsSeen, Pairs}
+use Rattle.guiding.specs.declared.turns.Answer.{Answer}
+use Rattle.guiding.specs.declared.turns.Answer.TheVariants.{Selection, Unsolvable}
+use Rattle.guiding.specs.Following as following
 use Rattle.guiding.specs.Remaining.{late_of, open_of, spaces_of}
 
 -- the problem, the vertices by their numbers, for each that the trail has the states that were asked for, of how many

@@ -18,6 +18,9 @@
 //! pair of such a one is begun with those that name no other (`begin_with`). The rest comes once these are propagated
 //! and the class is still left: 64 dependencies over 60 classes that lack a feature take 2 % of the time.
 //!
+//! The loop, which takes turns and ends without a budget, is `turns.rt`; it knows nothing of Cargo, and what it searches
+//! comes from a `Guide` (`guidance.rt`). What a lock says to a search that follows it is `states.rt`.
+//!
 //! A layer above may rely on this: the search ends where each vertex, taken `absent` if that is left, else in its one
 //! state, breaks no instance of an axiom; or with an entry without terms, from entries that are instances of their
 //! kinds. One that follows a valid selection ends with a selection, in which the states of the given one are left.
@@ -26,12 +29,24 @@
 mod choosing;
 mod coming;
 mod given;
+mod guidance;
 mod guide;
+mod in_content;
+mod laws;
 mod leads;
+mod numbers;
 mod opening;
 mod order;
 mod preferring;
 mod searched;
+mod states;
+mod states_left;
+mod turns;
 
+pub use guidance::Guide;
 pub use guide::Encoded;
+pub use laws::{assignments_fall, jumps_fall};
 pub use searched::{Searched, search_over};
+pub use states::state_in;
+pub use states_left::least;
+pub use turns::{Answer, Found, search};

@@ -3,11 +3,11 @@
 ghost use Rattle.std.specs.Prelude.{◌≡◌, ◌<◌, length, map};
 ghost use Rattle.propagation.specs.Promises.{IsSound};
 ghost use Rattle.propagation.specs.Trails.{trail_view};
-ghost use Rattle.searching.specs.Searching.{IsSeen};
+ghost use Rattle.guiding.specs.Searching.{IsSeen};
 ghost use Rattle.guiding.specs.Guides.{IsNextOpen, IsOpenAt, IsUnless, asked_of};
 
+use crate::states_left::least;
 use propagation::Trail;
-use searching::least;
 use version_sets::States;
 
 /// A state, unless it was asked for or is absent, which has no instances but the root's, stored from the start.

@@ -4,15 +4,15 @@ ghost use Rattle.std.specs.Prelude.{◌≡◌, ◌≤◌, [], IfOk, length};
 ghost use Rattle.incompatibilities.specs.Stores.{entries_view};
 ghost use Rattle.propagation.specs.Trails.{trail_view};
 ghost use Rattle.numbering.specs.KnownProblem.{KnowsDefault, problem};
-ghost use Rattle.searching.specs.Counting.{IsCount};
+ghost use Rattle.guiding.specs.Counting.{IsCount};
 ghost use Rattle.guiding.specs.Guides.{CanFollow, HasSearched};
 
 use crate::guide::Encoded;
+use crate::turns::{Found, search};
 use incompatibilities::Store;
 use lockfile::LockContent;
 use numbering::KnownProblem;
 use propagation::Trail;
-use searching::{Found, search};
 use std::alloc::{AllocError, Global};
 use version_sets::States;
 

@@ -17,8 +17,8 @@ use Rattle.catalogue.specs.Problems.{problem_in}
 use Rattle.catalogue.specs.Stores.{CatalogueView, candidates_at}
 use Rattle.catalogue.specs.Views.{Said, said, said_by}
 use Rattle.catalogue.specs.declared.candidate.Candidate as held
-use Rattle.looking_up.specs.Ranges.{is_of}
-use Rattle.looking_up.proofs.Classed.{class_is_of}
+use Rattle.lookups.specs.Ranges.{is_of}
+use Rattle.lookups.proofs.Classed.{class_is_of}
 use Rattle.refutations.specs.Causes.{terms_of_cause, of_feature}
 use Rattle.instances.specs.Keeping.{is_had}
 

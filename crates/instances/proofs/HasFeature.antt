@@ -20,11 +20,11 @@ use Rattle.manifest.specs.Manifests.{ManifestView}
 use Rattle.vertices.proofs.OrderLaws.{state_total}
 use Rattle.catalogue.specs.Problems.{problem_in}
 use Rattle.catalogue.specs.Stores.{CatalogueView, candidates_at, rows_by_name}
-use Rattle.looking_up.specs.Matching.{is_lacking}
-use Rattle.looking_up.specs.Ranges.{AreRising, is_of, versions_with}
+use Rattle.lookups.specs.Matching.{is_lacking}
+use Rattle.lookups.specs.Ranges.{AreRising, is_of, versions_with}
 use Rattle.catalogue.proofs.Lookups.{candidates_are}
-use Rattle.looking_up.proofs.Classed.{with_classed, records_named}
-use Rattle.looking_up.proofs.Pieces.{parts_filtered}
+use Rattle.lookups.proofs.Classed.{with_classed, records_named}
+use Rattle.lookups.proofs.Pieces.{parts_filtered}
 use Rattle.instances.proofs.Rising.{rising_parts}
 
 apart : (v w : Parts) → version_cmp v w ≡ Less → same_version w v ≡ false

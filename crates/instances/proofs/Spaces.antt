@@ -20,10 +20,10 @@ use Rattle.refutations.specs.Causes.{dependency_at}
 use Rattle.catalogue.specs.Problems.{problem_in}
 use Rattle.catalogue.specs.Stores.{CatalogueView, candidates_at, rows_by_name}
 use Rattle.instances.specs.FullTerms.{classes_if, others, has_if_matched}
-use Rattle.looking_up.specs.Ranges.{is_of}
+use Rattle.lookups.specs.Ranges.{is_of}
 use Rattle.catalogue.proofs.Lookups.{candidates_are}
-use Rattle.looking_up.proofs.Classed.{all_classed}
-use Rattle.looking_up.proofs.Versions.{all-map}
+use Rattle.lookups.proofs.Classed.{all_classed}
+use Rattle.lookups.proofs.Versions.{all-map}
 
 all-filter : {X : Type 0} (p q : X → Bool) (xs : List X)
     → list_all p (filter q xs) ≡ list_all (λ x. not (q x) || p x) xs

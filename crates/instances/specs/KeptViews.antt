@@ -1,6 +1,6 @@
 -- What is looked up in, where what was found is kept.
 use Rattle.model.specs.Content.{Problem}
-use Rattle.looking_up.specs.Views.{problem_view}
+use Rattle.lookups.specs.Views.{problem_view}
 use Rattle.instances.specs.declared.kept.Kept.{Kept}
 
 abbrev pub problem_of : Kept → Problem

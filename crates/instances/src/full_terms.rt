@@ -11,15 +11,14 @@ ghost use Rattle.semver.specs.Identifiers.{parts_of};
 ghost use Rattle.features.specs.Views.{requirement_view};
 ghost use Rattle.instances.specs.FullTerms.{has_if_matched, others};
 ghost use Rattle.instances.specs.KeptViews.{problem_of};
-ghost use Rattle.looking_up.specs.Views.{problem_view};
-ghost use Rattle.named_terms.specs.Views.{term_view, term_views};
+ghost use Rattle.lookups.specs.Views.{problem_view};
+ghost use Rattle.lookups.specs.TermViews.{term_view, term_views};
 ghost use Rattle.vertices.specs.RefViews.{owner_ref_view, vertex_ref_view};
 
 use crate::kept::Kept;
 use classes::{Class, is_matched};
 use features::{DependencyParts, PackageName};
-use looking_up::{Problem, class_versions, dependency_at};
-use named_terms::{StateSet, Term};
+use lookups::{Problem, StateSet, Term, class_versions, dependency_at};
 use semver::{Version, VersionReq};
 use std::alloc::{AllocError, Global};
 use vertices::{OwnerRef, StateRef, VertexRef};

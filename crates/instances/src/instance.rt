@@ -4,14 +4,14 @@ ghost use Rattle.std.specs.Prelude.{◌≡◌, IfOk};
 ghost use Rattle.model.specs.Axioms.{without_full};
 ghost use Rattle.refutations.specs.Causes.{terms_of_cause};
 ghost use Rattle.instances.specs.KeptViews.{problem_of};
-ghost use Rattle.named_terms.specs.CauseViews.{cause_view};
-ghost use Rattle.named_terms.specs.Views.{term_views};
+ghost use Rattle.lookups.specs.CauseViews.{cause_view};
+ghost use Rattle.lookups.specs.TermViews.{term_views};
 
 use crate::full_terms::without_full;
 use crate::has_feature::feature_instance;
 use crate::kept::Kept;
 use crate::kinds::terms_of_cause;
-use named_terms::{Cause, Term};
+use lookups::{Cause, Term};
 use std::alloc::{AllocError, Global};
 
 /// The terms of the instance that a cause gives rise to, without the full ones.

@@ -3,7 +3,7 @@
 ghost use Rattle.std.specs.Prelude.{◌≡◌, IfSome};
 ghost use Rattle.classes.specs.Classes.{class_view};
 ghost use Rattle.features.specs.Views.{dependency_view};
-ghost use Rattle.looking_up.specs.Views.{problem_view};
+ghost use Rattle.lookups.specs.Views.{problem_view};
 ghost use Rattle.features.specs.Texts.{has_text};
 ghost use Rattle.instances.specs.Keeping.{AreHad, AreKept, AreLacking, AreMatched, left_in, some_in, taken_in};
 
@@ -11,8 +11,9 @@ use crate::features_had::features_had;
 use crate::matched_classes::matched_classes;
 use classes::Class;
 use features::{DependencyParts, FeatureName, PackageName};
-use looking_up::{Problem, class_candidates, class_versions, dependency_at, has_class};
-use named_terms::{Cause, StateSet};
+use lookups::{
+    Cause, Problem, StateSet, class_candidates, class_versions, dependency_at, has_class,
+};
 use semver::VersionReq;
 use std::alloc::{AllocError, Global};
 use std::collections::{BTreeSet, HashMap};

@@ -5,7 +5,7 @@ ghost use Rattle.std.specs.List.{list_all};
 ghost use Rattle.semver.specs.Identifiers.{parts_of};
 ghost use Rattle.classes.specs.Classes.{class_view};
 ghost use Rattle.features.specs.Views.{dependency_view, requirement_view};
-ghost use Rattle.looking_up.specs.Views.{problem_view};
+ghost use Rattle.lookups.specs.Views.{problem_view};
 ghost use Rattle.model.specs.Vertices.{State, dep_classes, has_state, in_class};
 ghost use Rattle.model.specs.Vertices as model;
 ghost use Rattle.instances.specs.FullTerms.{has_if_matched};
@@ -13,7 +13,7 @@ ghost use Rattle.instances.specs.Keeping.{AreAll, all_classes};
 
 use classes::{Class, is_matched, same_class};
 use features::DependencyParts;
-use looking_up::Problem;
+use lookups::Problem;
 use semver::{Version, VersionReq};
 use std::alloc::{AllocError, Global};
 

@@ -10,11 +10,11 @@ ghost use Rattle.model.specs.Selection.{class_of};
 ghost use Rattle.model.specs.Vertices as model;
 ghost use Rattle.vertices.specs.Orders.{state_cmp};
 ghost use Rattle.vertices.specs.RefViews.{state_ref_view, state_ref_views, owner_ref_view, vertex_ref_view};
-ghost use Rattle.named_terms.specs.Views.{term_view};
+ghost use Rattle.lookups.specs.TermViews.{term_view};
 
 use classes::Class;
 use features::{DependencyParts, FeatureName, PackageName};
-use named_terms::{StateSet, Term};
+use lookups::{StateSet, Term};
 use semver::Version;
 use std::alloc::{AllocError, Global};
 use vertices::{OwnerRef, StateRef, VertexRef};

@@ -6,14 +6,13 @@ ghost use Rattle.classes.specs.Classes.{class_view};
 ghost use Rattle.refutations.specs.Causes as causes;
 ghost use Rattle.refutations.specs.Causes.{terms_of_cause};
 ghost use Rattle.vertices.specs.RefViews.{owner_ref_view};
-ghost use Rattle.looking_up.specs.Views.{problem_view};
-ghost use Rattle.named_terms.specs.Views.{term_views};
+ghost use Rattle.lookups.specs.Views.{problem_view};
+ghost use Rattle.lookups.specs.TermViews.{term_views};
 
 use crate::terms::{led_term, off_term, term};
 use classes::Class;
 use features::{FeatureName, PackageName};
-use looking_up::{Problem, dependency_at};
-use named_terms::Term;
+use lookups::{Problem, Term, dependency_at};
 use semver::Version;
 use std::alloc::{AllocError, Global};
 use vertices::{OwnerRef, StateRef, VertexRef};

@@ -3,9 +3,9 @@
 use crate::marks::first_mark;
 use crate::misread::Misread;
 use crate::reading::misread_in;
-use misreadings::{Misreading, no_toml};
 use std::alloc::{AllocError, Global};
 use std::str::from_utf8;
+use tables::{Misreading, no_toml};
 
 /// The greatest number of bytes that a lock may have: 64 MiB.
 const MOST_BYTES: usize = 67_108_864;

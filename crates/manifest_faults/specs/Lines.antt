@@ -3,7 +3,7 @@ use Rattle.std.specs.Prelude.{ℕ, Bool, true, false, ◌==◌, if◌then◌else
 use Rattle.std.specs.Prelude.{◌≡◌, Some, codes, is_some, nat_eq}
 use Rattle.std.specs.List.{before_first, list_any, starts_with}
 use Rattle.model.specs.Optional.{of_utf8}
-use Rattle.misreadings.specs.Lines.{line_after}
+use Rattle.tables.specs.Lines.{line_after}
 use Rattle.toml.specs.Parse.{parse_document}
 use Rattle.toml.specs.Data.{Members}
 use Rattle.manifest_faults.specs.Places.{value_at}

@@ -9,10 +9,9 @@ ghost use Rattle.manifest_faults.specs.Lines.{Begins, Has, IsLineOf, front_of, u
 ghost use Rattle.manifest_faults.specs.Places.{value_at};
 
 use crate::place::{Place, named_value, value_at};
-use misreadings::line_after;
 use std::alloc::{AllocError, Global};
 use std::str::from_utf8;
-use tables::{member, read_table};
+use tables::{line_after, member, read_table};
 use toml::{Table, Value};
 
 /// The line on which what stands at a place begins, if that is certain.

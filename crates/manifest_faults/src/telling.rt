@@ -7,8 +7,8 @@ use crate::sentences::push_sentence;
 use crate::sought::Sought;
 use crate::why::{Culprit, Why};
 use manifest::ManifestFault;
-use misreadings::{Misreading, no_toml};
 use std::alloc::{AllocError, Global};
+use tables::{Misreading, no_toml};
 use toml::Table;
 
 /// The greatest number of bytes that a manifest may have: 1 MiB.

@@ -17,10 +17,10 @@ use Rattle.vertices.specs.Kinds.{kind_view}
 use Rattle.vertices.specs.declared.kind.Kind.{Kind}
 use Rattle.numbering.specs.Assignments.{state_at}
 use Rattle.numbering.specs.GivenViews.{cause_views, given_views}
-use Rattle.named_terms.specs.CauseViews.{cause_view}
+use Rattle.lookups.specs.CauseViews.{cause_view}
 use Rattle.numbering.specs.Numberings.{Numbering, IsGrown, IsNumbering, Says}
 use Rattle.numbering.specs.Pairs.{Pair, AreCausesAt, AreGiven}
-use Rattle.named_terms.specs.declared.cause.Cause as code
+use Rattle.lookups.specs.declared.cause.Cause as code
 use Rattle.numbering.proofs.Needing.{given_last, given_more}
 
 pub given_put : {S : Type 0} (tests : S → Members) (q : Problem) (vs new : Numbering) (cs : List Cause) (c : Cause)

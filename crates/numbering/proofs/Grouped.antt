@@ -21,9 +21,9 @@ use Rattle.classes.specs.Classes.{class_view}
 use Rattle.classes.specs.Groups.{Group, IsOldestFirst, classes_matched, each_once, group_views, groups_of}
 use Rattle.classes.specs.Groups.{positions_matched}
 use Rattle.classes.specs.declared.class.Class.{Class}
-use Rattle.looking_up.specs.Ranges.{AreRising}
+use Rattle.lookups.specs.Ranges.{AreRising}
 use Rattle.numbering.proofs.ClassOrder.{matched_classes}
-use Rattle.looking_up.proofs.Classed.{versions_are}
+use Rattle.lookups.proofs.Classed.{versions_are}
 use Rattle.numbering.proofs.Distinct.{of_rows}
 
 older : (v w : Version) → precedence_cmp v w ≡ Less

@@ -19,7 +19,7 @@ use Rattle.model.specs.Vertices.{same_class}
 use Rattle.model.proofs.Same.{class-refl}
 use Rattle.classes.specs.Classes.{class_view}
 use Rattle.classes.specs.declared.class.Class as code
-use Rattle.looking_up.specs.Ranges.{is_of}
+use Rattle.lookups.specs.Ranges.{is_of}
 use Rattle.numbering.specs.Narrowed.{AllowsOnly, MatchOnly, class_named, is_pinning, minor_named}
 
 left_of : (a b : Bool) → (a && b) ≡ true → a ≡ true

@@ -12,13 +12,13 @@ use Rattle.refutations.specs.Listed.{same_cause}
 use Rattle.std.proofs.lemmas.List.Elements.{Contains-append_right, Contains-append_left, Contains-push_cases}
 use Rattle.refutations.proofs.Listing.{cause-same, cause-refl}
 use Rattle.numbering.specs.GivenViews.{cause_views}
-use Rattle.named_terms.specs.CauseViews.{cause_view}
+use Rattle.lookups.specs.CauseViews.{cause_view}
 use Rattle.numbering.specs.CausesAt.{with_cause, with_causes}
-use Rattle.named_terms.specs.declared.cause.Cause.{Cause}
-use Rattle.named_terms.specs.declared.cause.Cause.TheVariants as cause
+use Rattle.lookups.specs.declared.cause.Cause.{Cause}
+use Rattle.lookups.specs.declared.cause.Cause.TheVariants as cause
 use Rattle.features.specs.declared.entry.Entry.{Entry}
 use Rattle.features.specs.declared.entry.Entry.TheVariants as entry
-use Rattle.named_terms.specs.contracts.cause.CausePartialEq.TheImpl as cause_eq
+use Rattle.lookups.specs.contracts.cause.CausePartialEq.TheImpl as cause_eq
 use Rattle.features.specs.EntryViews.{entry_view}
 use Rattle.features.specs.contracts.entry.EntryPartialEq.TheImpl as entry_eq
 use Rattle.numbering.proofs.Same.{class_same, owner_same, version_same}

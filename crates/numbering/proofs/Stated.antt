@@ -21,7 +21,7 @@ use Rattle.classes.specs.declared.class.Class as code
 use Rattle.refutations.specs.Causes.{dependency_at}
 use Rattle.refutations.specs.Listed.{classes_at, classes_if}
 use Rattle.numbering.specs.Assignments.{state_at}
-use Rattle.looking_up.specs.Ranges.{is_of}
+use Rattle.lookups.specs.Ranges.{is_of}
 use Rattle.numbering.proofs.Tested.{map_map, states_here}
 
 state_after : (xs : List State) (n : ℕ) → (n ≡ 0 → ⊥) → slice_get (absent ∷ xs) n ≡ slice_get xs (n - 1)

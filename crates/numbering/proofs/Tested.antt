@@ -25,10 +25,10 @@ use Rattle.catalogue.specs.declared.candidate.Candidate as stored
 use Rattle.refutations.specs.Listed.{classes_at, classes_if}
 use Rattle.numbering.specs.Numberings.{members_at}
 use Rattle.numbering.specs.TestedTerms.{is_chosen, is_class}
-use Rattle.looking_up.specs.Matching.{is_left}
-use Rattle.looking_up.specs.Ranges.{is_of, versions_with}
+use Rattle.lookups.specs.Matching.{is_left}
+use Rattle.lookups.specs.Ranges.{is_of, versions_with}
 use Rattle.numbering.proofs.ClassOrder.{IsOlder}
-use Rattle.looking_up.proofs.Classed.{class_is_of, classed_are, named, with_classed, with_those}
+use Rattle.lookups.proofs.Classed.{class_is_of, classed_are, named, with_classed, with_those}
 use Rattle.numbering.proofs.Distinct.{of_rows, older_differ}
 
 module _ {X Y Z : Type 0} where

@@ -7,8 +7,8 @@ use Rattle.vertices.specs.Kinds.{kind_view}
 use Rattle.vertices.specs.declared.kind.Kind.{Kind}
 use Rattle.refutations.specs.Causes as causes
 use Rattle.numbering.specs.Pairs.{Given}
-use Rattle.named_terms.specs.CauseViews.{cause_view}
-use Rattle.named_terms.specs.declared.cause.Cause.{Cause}
+use Rattle.lookups.specs.CauseViews.{cause_view}
+use Rattle.lookups.specs.declared.cause.Cause.{Cause}
 
 abbrev pub cause_views : List Cause → List causes.Cause
 cause_views cs = map cause_view cs

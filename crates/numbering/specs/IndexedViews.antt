@@ -1,6 +1,6 @@
 -- The problem whose owners are looked at.
 use Rattle.model.specs.Content.{Problem}
-use Rattle.looking_up.specs.Views.{problem_view}
+use Rattle.lookups.specs.Views.{problem_view}
 use Rattle.numbering.specs.declared.indexed.Indexed.{Indexed}
 
 abbrev pub problem_indexed : Indexed → Problem

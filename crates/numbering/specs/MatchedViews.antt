@@ -1,6 +1,6 @@
 -- What is matched in, where what requirements match is kept.
 use Rattle.model.specs.Content.{Problem}
-use Rattle.looking_up.specs.Views.{problem_view}
+use Rattle.lookups.specs.Views.{problem_view}
 use Rattle.numbering.specs.declared.matched.Matched.{Matched}
 
 abbrev pub problem_of : Matched → Problem

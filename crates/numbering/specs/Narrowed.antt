@@ -6,7 +6,7 @@ use Rattle.semver.specs.Parse.{Held, Parts}
 use Rattle.semver.specs.declared.Op.{Op}
 use Rattle.semver.specs.declared.Op.TheVariants as op
 use Rattle.model.specs.Selection.{Class, minor, major}
-use Rattle.looking_up.specs.Ranges.{is_of}
+use Rattle.lookups.specs.Ranges.{is_of}
 
 -- the first numbers of what is matched are those of the comparator
 abbrev pub is_pinning : Op → Bool

@@ -11,7 +11,7 @@ ghost use Rattle.numbering.specs.MatchedViews.{problem_of};
 use crate::called::Numbered;
 use crate::matched::Matched;
 use classes::Class;
-use looking_up::Problem;
+use lookups::Problem;
 use std::alloc::{AllocError, Global};
 use std::collections::HashMap;
 use std::marker::Model;
@@ -26,7 +26,7 @@ pub(crate) struct ByClass<'a> {
 
 impl<'a> Model for ByClass<'a> {
     ghost use Rattle.std.specs.Prelude.{ℕ, List};
-    ghost use Rattle.looking_up.specs.Views.{problem_view};
+    ghost use Rattle.lookups.specs.Views.{problem_view};
     ghost use Rattle.model.specs.Content as model;
     ghost use Rattle.model.specs.Summary.{Dependency};
     ghost use Rattle.numbering.specs.ByClass.{IsByClass};

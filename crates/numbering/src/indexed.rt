@@ -3,7 +3,7 @@
 ghost use Rattle.std.specs.Prelude.{◌≡◌, IfSome};
 ghost use Rattle.std.specs.Option.{ForSome};
 ghost use Rattle.model.specs.Vertices.{owner_brings};
-ghost use Rattle.looking_up.specs.Views.{problem_view};
+ghost use Rattle.lookups.specs.Views.{problem_view};
 ghost use Rattle.vertices.specs.RefViews.{owner_ref_view};
 ghost use Rattle.numbering.specs.Called.{numbered_from, numbered_views};
 ghost use Rattle.numbering.specs.Indexed.{AreBrought};
@@ -14,7 +14,7 @@ use crate::called::Numbered;
 use crate::on_package::OnPackage;
 use catalogue::Catalogue;
 use features::{Dependency, PackageName};
-use looking_up::{Problem, dependencies_of};
+use lookups::{Problem, dependencies_of};
 use manifest::Manifest;
 use std::alloc::{AllocError, Global};
 use std::collections::HashMap;

@@ -4,7 +4,7 @@ ghost use Rattle.std.specs.Prelude.{◌≡◌, ◌++◌, ◌∷◌, ◌≤◌, [
 ghost use Rattle.std.specs.List.{AllByRecursion};
 ghost use Rattle.terms.specs.Terms.{terms_view};
 ghost use Rattle.refutations.specs.Causes.{is_cause, terms_of_cause};
-ghost use Rattle.named_terms.specs.CauseViews.{cause_view};
+ghost use Rattle.lookups.specs.CauseViews.{cause_view};
 ghost use Rattle.numbering.specs.KnownProblem.{problem};
 ghost use Rattle.numbering.specs.Numberings.{AddsOnly, IsGrown, IsNumbering, Says};
 ghost use Rattle.numbering.specs.Pairs.{spoken_by};
@@ -19,7 +19,7 @@ use crate::table::Table;
 use crate::tested_terms::{TestedTerm, terms_tested};
 use catalogue::catalogues_are_well_formed;
 use incompatibilities::Incompatibility;
-use named_terms::Cause;
+use lookups::Cause;
 use std::alloc::{AllocError, Global};
 use terms::Term;
 use version_sets::States;

@@ -2,13 +2,13 @@
 
 ghost use Rattle.std.specs.Prelude.{◌≡◌};
 ghost use Rattle.catalogue.specs.Problems.{problem_in};
-ghost use Rattle.looking_up.specs.Views as looked_up;
+ghost use Rattle.lookups.specs.Views as looked_up;
 ghost use Rattle.numbering.specs.MatchedViews.{problem_of};
 
 use crate::matched::Matched;
 use catalogue::Catalogue;
 use features::FeatureName;
-use looking_up::Problem;
+use lookups::Problem;
 use manifest::Manifest;
 
 /// The manifest and the loaded index, the name of the feature `default`, which a dependency may ask for without

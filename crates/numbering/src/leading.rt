@@ -24,7 +24,7 @@ use crate::lookups::{dependencies_of, dependency_at};
 use crate::possible_classes::classes_of;
 use classes::Class;
 use features::{Dependency, DependencyParts, FeatureName, PackageName};
-use named_terms::Cause;
+use lookups::Cause;
 use std::alloc::{AllocError, Global};
 use vertices::OwnerRef;
 

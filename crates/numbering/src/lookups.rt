@@ -16,7 +16,7 @@ pub(crate) fn brings<'a>(known: &KnownProblem<'a>, owner: &OwnerRef<'_>) -> Opti
     ensures { brings_view result ≡ owner_brings (problem known.now) (owner_ref_view owner.now) }
 {
     let held = known.held();
-    looking_up::brings(&held, owner)
+    lookups::brings(&held, owner)
 }
 
 /// The dependencies of an owner.
@@ -28,7 +28,7 @@ pub(crate) fn dependencies_of<'a>(
         ≡ (owner_brings (problem known.now) (owner_ref_view owner.now)).dependencies }
 {
     let held = known.held();
-    looking_up::dependencies_of(&held, owner)
+    lookups::dependencies_of(&held, owner)
 }
 
 /// The dependency of an owner that has this number.
@@ -41,5 +41,5 @@ pub fn dependency_at<'a>(
         ≡ dependency_at (problem known.now) (owner_ref_view owner.now) number }
 {
     let held = known.held();
-    looking_up::dependency_at(&held, owner, number)
+    lookups::dependency_at(&held, owner, number)
 }

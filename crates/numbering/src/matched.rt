@@ -3,7 +3,7 @@
 ghost use Rattle.std.specs.Prelude.{◌≡◌, IfOk, IfSome, map};
 ghost use Rattle.classes.specs.Classes.{class_view};
 ghost use Rattle.features.specs.Views.{dependency_view};
-ghost use Rattle.looking_up.specs.Views.{problem_view};
+ghost use Rattle.lookups.specs.Views.{problem_view};
 ghost use Rattle.model.specs.Vertices.{dep_classes, owner_brings};
 ghost use Rattle.vertices.specs.RefViews.{owner_ref_view};
 ghost use Rattle.numbering.specs.Called.{numbered_from, numbered_views};
@@ -21,7 +21,7 @@ use crate::table::Table;
 use catalogue::{Catalogue, catalogues_are_well_formed};
 use classes::{Class, matching};
 use features::{Dependency, DependencyParts, PackageName};
-use looking_up::{Problem, class_versions, dependencies_of};
+use lookups::{Problem, class_versions, dependencies_of};
 use manifest::Manifest;
 use semver::VersionReq;
 use std::alloc::{AllocError, Global};

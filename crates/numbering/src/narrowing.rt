@@ -5,11 +5,11 @@ ghost use Rattle.semver.specs.EvalViews.{matches_views};
 ghost use Rattle.semver.specs.Identifiers.{comparator_view, parts_of};
 ghost use Rattle.classes.specs.Classes.{class_view};
 ghost use Rattle.features.specs.Views.{requirement_view};
-ghost use Rattle.looking_up.specs.Ranges.{AreRising};
+ghost use Rattle.lookups.specs.Ranges.{AreRising};
 ghost use Rattle.numbering.specs.Narrowed.{AllowsOnly, MatchOnly, class_named, is_pinning};
 
 use classes::Class;
-use looking_up::of_class;
+use lookups::of_class;
 use semver::{Comparator, Op, Version, VersionReq};
 
 /// The versions of the one class that the requirement can match, or all where it names none: a requirement such as

@@ -12,15 +12,15 @@ ghost use Rattle.model.specs.Axioms.{is_lower};
 ghost use Rattle.model.specs.Order.{precedence};
 ghost use Rattle.model.specs.Summary.{has_feature};
 ghost use Rattle.numbering.specs.TestedTerms.{is_chosen, is_class, states_view};
-ghost use Rattle.looking_up.specs.Matching.{is_left};
-ghost use Rattle.looking_up.specs.Ranges.{AreRising};
+ghost use Rattle.lookups.specs.Matching.{is_left};
+ghost use Rattle.lookups.specs.Ranges.{AreRising};
 ghost use Rattle.semver.specs.EvalViews.{matches_views};
 ghost use Rattle.version_sets.specs.Sets.{has, none, only};
 
 use catalogue::Candidate;
 use classes::{Class, is_matched};
 use features::FeatureName;
-use looking_up::is_left;
+use lookups::is_left;
 use semver::{Version, VersionReq};
 use std::alloc::{AllocError, Global};
 

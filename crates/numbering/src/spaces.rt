@@ -11,7 +11,7 @@ use crate::possible_classes::classes_at;
 use crate::table::Table;
 use classes::Class;
 use features::PackageName;
-use looking_up::class_versions;
+use lookups::class_versions;
 use std::alloc::{AllocError, Global};
 use vertices::{OwnerRef, VertexRef};
 

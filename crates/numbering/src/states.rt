@@ -12,7 +12,7 @@ use crate::known_problem::KnownProblem;
 use crate::possible_classes::classes_at;
 use classes::Class;
 use features::PackageName;
-use looking_up::class_versions;
+use lookups::class_versions;
 use semver::Version;
 use std::alloc::{AllocError, Global};
 use vertices::{OwnerRef, StateRef, VertexRef};

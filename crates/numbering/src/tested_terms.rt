@@ -10,7 +10,7 @@ ghost use Rattle.model.specs.Summary.{has_feature};
 ghost use Rattle.model.specs.Vertices as model;
 ghost use Rattle.refutations.specs.Causes as causes;
 ghost use Rattle.refutations.specs.Causes.{dependency_at, feature_holds, terms_of_cause};
-ghost use Rattle.named_terms.specs.CauseViews.{cause_view};
+ghost use Rattle.lookups.specs.CauseViews.{cause_view};
 ghost use Rattle.numbering.specs.KnownProblem.{problem};
 ghost use Rattle.numbering.specs.TestedTerms.{states_view, tested, tested_view, tested_views, all_tested};
 ghost use Rattle.vertices.specs.RefViews.{owner_ref_view, vertex_ref_view};
@@ -24,8 +24,7 @@ use crate::space_tests::{
 use catalogue::catalogues_are_well_formed;
 use classes::Class;
 use features::{DependencyParts, FeatureName, PackageName};
-use looking_up::{class_candidates, class_versions};
-use named_terms::Cause;
+use lookups::{Cause, class_candidates, class_versions};
 use semver::Version;
 use std::alloc::{AllocError, Global};
 use vertices::{OwnerRef, VertexRef};

@@ -2,13 +2,14 @@
 
 use crate::answers::{Form, inputs_in, lock_in, manifest_misreading_in, misreading_in};
 use crate::outcome::Outcome;
+use crate::paths::Paths;
+use crate::reading::Bytes;
 use crate::said::Said;
 use features::PackageName;
 use index_reader::Folder;
 use lock_faults::checksum_line;
 use manifest::Unsupported;
-use messages::Severity;
-use project_files::{Bytes, Paths};
+use reports::messages::Severity;
 use reports::{Checksums, checksums_of};
 use resolver::{Fault, TooLarge};
 use semver::Version;

@@ -14,7 +14,7 @@ pub fn tell_read(
     said: &mut Said,
 ) -> Result<(), AllocError> {
     let text = match said.form() {
-        Form::Programs => messages::index_read(alloc, index, files, lines)?,
+        Form::Programs => reports::messages::index_read(alloc, index, files, lines)?,
         Form::People => read(alloc, files, lines)?,
     };
     said.answer(text.as_str())
@@ -57,7 +57,7 @@ pub fn tell_fetched(
     said: &mut Said,
 ) -> Result<(), AllocError> {
     if said.form() == Form::Programs {
-        let text = messages::index_fetched(alloc, index, missing)?;
+        let text = reports::messages::index_fetched(alloc, index, missing)?;
         return said.answer(text.as_str());
     }
     let text = format!(in alloc; "the index is what Cargo fetched, in {index}")?;

@@ -5,7 +5,9 @@
 
 use crate::answers::{Form, NewLock, found_in, inputs_in, new_lock, refusal_in, rest_without};
 use crate::outcome::Outcome;
+use crate::paths::Paths;
 use crate::pinning::Pins;
+use crate::reading::Bytes;
 use crate::resolving::{Wish, locked, new_lock_of, no_lock, preference};
 use crate::said::Said;
 use crate::why::{NoWay, Question, no_way};
@@ -13,7 +15,6 @@ use derivations::Derivation;
 use features::PackageName;
 use index_reader::Folder;
 use lockfile::{LockContent, Package};
-use project_files::{Bytes, Paths};
 use reports::{Meant, Wanted};
 use resolver::{Answer, Fault};
 use semver::Version;

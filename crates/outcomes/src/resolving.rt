@@ -9,14 +9,15 @@ use crate::answers::{
 };
 use crate::faults::{tell_checksums, tell_misreading};
 use crate::outcome::Outcome;
+use crate::paths::Paths;
+use crate::reading::Bytes;
 use crate::said::Said;
 use crate::verifying::warn_of_refused;
 use crate::why::{Question, no_way};
 use catalogue::Prefer;
 use derivations::Derivation;
 use index_reader::Folder;
-use messages::Severity;
-use project_files::{Bytes, Paths};
+use reports::messages::Severity;
 use resolver::{Answer, Fault};
 use std::alloc::{AllocError, Global};
 
@@ -374,7 +375,7 @@ fn tell_repair(
     let path = paths.lock.as_str();
     let text = match said.form() {
         Form::People => kept_of(alloc, path, repaired.packages)?,
-        Form::Programs => messages::repair(alloc, path, repaired.packages)?,
+        Form::Programs => reports::messages::repair(alloc, path, repaired.packages)?,
     };
     said.below(text.as_str())
 }

@@ -2,7 +2,7 @@
 
 use crate::answers::Form;
 use crate::faults::Sentence;
-use messages::Severity;
+use reports::messages::Severity;
 use resolver::Fault;
 use std::alloc::{AllocError, Global};
 
@@ -102,7 +102,9 @@ impl Said {
         match self.form {
             Form::People => self.tell_people(severity, message, code),
             Form::Programs => {
-                let line = messages::diagnostic(self.alloc, severity, kind, message, code)?;
+                let line = reports::messages::diagnostic(
+                    self.alloc, severity, kind, message, code,
+                )?;
                 self.out.push_str(line.as_str())
             }
         }

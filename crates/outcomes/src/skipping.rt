@@ -2,9 +2,9 @@
 
 use crate::answers::{skips_in, skips_in_all};
 use crate::outcome::Outcome;
+use crate::reading::Bytes;
 use crate::said::Said;
 use index_reader::Folder;
-use project_files::Bytes;
 use resolver::Fault;
 use std::alloc::Global;
 

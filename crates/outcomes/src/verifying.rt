@@ -2,12 +2,13 @@
 
 use crate::answers::{Form, flaws_in, inputs_in, lock_in, verdict_in, verdict_on};
 use crate::outcome::Outcome;
+use crate::paths::Paths;
+use crate::reading::Bytes;
 use crate::said::Said;
 use catalogue::Catalogue;
 use index_reader::Folder;
 use lockfile::LockContent;
-use messages::Severity;
-use project_files::{Bytes, Paths};
+use reports::messages::Severity;
 use reports::{
     Beside, Refused, loaded, refused_by_cargo, refused_kind, refused_lines, refused_sentence,
 };

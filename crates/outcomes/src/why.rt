@@ -2,9 +2,10 @@
 
 use crate::answers::{Form, inputs_in, meant_in, way_in};
 use crate::outcome::Outcome;
+use crate::paths::Paths;
+use crate::reading::Bytes;
 use crate::said::Said;
 use index_reader::Folder;
-use project_files::{Bytes, Paths};
 use reports::{Inputs, Meant, Part, Wanted, WhyThere, package_in, part_in, why_there};
 use resolver::Fault;
 use std::alloc::{AllocError, Global};

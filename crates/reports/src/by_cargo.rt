@@ -6,8 +6,8 @@
 
 use crate::refused::Refused;
 use features::PackageName;
+use flaws::out_of_memory;
 use index_reader::{Folder, FolderFault, index_path};
-use lacks::out_of_memory;
 use lockfile::{LockContent, Package};
 use semver::Version;
 use std::alloc::{AllocError, Global};

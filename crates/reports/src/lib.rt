@@ -3,6 +3,8 @@
 //! Nothing here reads words, looks where files are or prints: a report is asked for by what was read, and by what was
 //! loaded of any folder, or by the folder itself. So a report is tested without a disk.
 //!
+//! The same is told to programs, as JSON, by `messages`.
+//!
 //! A layer above may rely on this: what is said of why a package is there is what `changes` promises
 //! (`specs/WhyThere`), and a text `NAME` or `NAME@VERSION` asks for just the package that `specs/Asked` says.
 #![tactic(auto)]
@@ -10,6 +12,7 @@
 mod by_cargo;
 mod checksums;
 mod lost;
+pub mod messages;
 mod part;
 mod refused;
 mod refusing;
@@ -21,7 +24,7 @@ mod whole_index;
 
 pub use by_cargo::refused_by_cargo;
 pub use checksums::{Checksums, checksums_of};
-pub use lacks::LackTold;
+pub use flaws::LackTold;
 pub use lost::{lost_between, lost_version};
 pub use part::{Meant, Part, meant_by, part_in};
 pub use refused::{Beside, Refused, refused_kind, refused_lines, refused_sentence};

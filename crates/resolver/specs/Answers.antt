@@ -17,8 +17,8 @@ use Rattle.selection.specs.Verdicts.{IsVerdictOn}
 use Rattle.selection.specs.declared.verdict.Verdict.{Verdict}
 use Rattle.selection.specs.declared.verdict.Verdict.TheVariants.{Valid}
 use Rattle.explainer.specs.Explanations.{explanation_of}
-use Rattle.reaching.specs.Built.{HasBareRoot}
-use Rattle.reaching.specs.Followed.{IsBrought}
+use Rattle.facts.specs.Built.{HasBareRoot}
+use Rattle.facts.specs.Followed.{IsBrought}
 use Rattle.solver.specs.Solving.{IsSelected, IsUnsolvable}
 use Rattle.selection.specs.Preferred.{IsPreferred, preferred_in}
 use Rattle.resolver.specs.Faults.{input_wants_memory}

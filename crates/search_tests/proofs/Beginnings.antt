@@ -11,12 +11,12 @@ use Rattle.propagation.specs.Promises.{IsNew, IsTrail, LieIn}
 use Rattle.propagation.specs.Trails.{TrailView, set_of, space_of}
 use Rattle.propagation.proofs.SetLemmas.{has_some}
 use Rattle.propagation.proofs.Vertices.{in_range}
-use Rattle.searching.specs.Searching.{HasSpaces, Pairs}
-use Rattle.searching.specs.Turning.{HasEnded}
-use Rattle.searching.specs.Following.{IsDecidedBut}
-use Rattle.searching.specs.declared.turns.Answer.{Answer}
-use Rattle.searching.specs.declared.turns.Answer.TheVariants.{Selection, Unsolvable}
-use Rattle.searching.proofs.Selections.{not_broken}
+use Rattle.guiding.specs.Searching.{HasSpaces, Pairs}
+use Rattle.guiding.specs.Turning.{HasEnded}
+use Rattle.guiding.specs.Following.{IsDecidedBut}
+use Rattle.guiding.specs.declared.turns.Answer.{Answer}
+use Rattle.guiding.specs.declared.turns.Answer.TheVariants.{Selection, Unsolvable}
+use Rattle.guiding.proofs.Selections.{not_broken}
 use Rattle.search_tests.specs.Universes.{AllDecided, AllLie, IsWithinAll, Selects}
 
 space_is : (spaces : List ℕ) (t : TrailView) → IsNew spaces t → (u : ℕ) → space_of t u ≡ get_or spaces u 0

@@ -16,9 +16,9 @@ use Rattle.propagation.specs.Widening.{IsWider, sum_of}
 use Rattle.propagation.specs.Units.{term_at}
 use Rattle.propagation.proofs.Vertices.{place_of, states_of}
 use Rattle.propagation.proofs.Widened.{sum_append, wider_again, wider_none}
-use Rattle.searching.specs.Searching.{HasSpaces, IsOnly}
-use Rattle.searching.specs.Turning.{IsAdding}
-use Rattle.searching.proofs.Guides.{adding_nothing, lone_one, spaces_wider}
+use Rattle.guiding.specs.Searching.{HasSpaces, IsOnly}
+use Rattle.guiding.specs.Turning.{IsAdding}
+use Rattle.guiding.proofs.Guides.{adding_nothing, lone_one, spaces_wider}
 use Rattle.search_trials.specs.Meeting.{universe_at}
 use Rattle.search_tests.specs.Demands.{AllFit, HasCome, HasOnly, IsAlone, IsOfPair, IsPutOf, asked_of, pair_at, waits}
 

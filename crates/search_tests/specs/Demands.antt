@@ -9,7 +9,7 @@ use Rattle.propagation.specs.Promises.{IsTrail}
 use Rattle.propagation.specs.Trails.{TrailView, set_of}
 use Rattle.propagation.specs.Widening.{IsWider, sum_of}
 use Rattle.propagation.specs.Units.{term_at}
-use Rattle.searching.specs.Searching.{IsOnly, Pairs}
+use Rattle.guiding.specs.Searching.{IsOnly, Pairs}
 use Rattle.search_trials.specs.Meeting.{universe_at}
 
 abbrev pub waits : List (ℕ × ℕ) → ℕ → ℕ → Bool

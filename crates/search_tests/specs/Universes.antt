@@ -6,9 +6,9 @@ use Rattle.incompatibilities.specs.Stores.{EntryView, entry, terms_of}
 use Rattle.propagation.specs.Satisfaction.{Agrees}
 use Rattle.propagation.specs.Trails.{TrailView, set_of}
 use Rattle.search_trials.specs.Meeting.{universe_at}
-use Rattle.searching.specs.Searching.{IsRefutation}
-use Rattle.searching.specs.declared.turns.Answer.{Answer}
-use Rattle.searching.specs.declared.turns.Answer.TheVariants.{Selection, Unsolvable}
+use Rattle.guiding.specs.Searching.{IsRefutation}
+use Rattle.guiding.specs.declared.turns.Answer.{Answer}
+use Rattle.guiding.specs.declared.turns.Answer.TheVariants.{Selection, Unsolvable}
 
 abbrev pub AllLie : List ℕ → List EntryView → Type 0
 AllLie spaces es = (id : ℕ) → id < length es → LiesIn (universe_at spaces) (terms_of es id)

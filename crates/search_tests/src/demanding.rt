@@ -8,15 +8,15 @@ ghost use Rattle.incompatibilities.specs.Stores.{entries_view};
 ghost use Rattle.propagation.specs.Promises.{IsTrail};
 ghost use Rattle.propagation.specs.Trails.{set_of, trail_view};
 ghost use Rattle.propagation.specs.Widening.{IsWider};
-ghost use Rattle.searching.specs.Searching.{IsOnly};
+ghost use Rattle.guiding.specs.Searching.{IsOnly};
 ghost use Rattle.std.specs.Bool.{OnFalse, OnTrue};
 ghost use Rattle.std.specs.Prelude.{◌≡◌, ◌≢◌, ◌<◌, ◌≤◌, ◌∷◌, ◌++◌, [], IfOk, OnOk, length, map};
 ghost use Rattle.terms.specs.Terms.{terms_view};
 
 use crate::deciding::first_open;
+use guiding::{Answer, Guide, least, search};
 use incompatibilities::{Id, Incompatibility, Origin, Store};
 use propagation::Trail;
-use searching::{Answer, Guide, least, search};
 use std::alloc::{AllocError, Global};
 use terms::Term;
 use version_sets::States;

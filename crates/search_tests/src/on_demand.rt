@@ -4,9 +4,9 @@ ghost use Rattle.search_trials.specs.Meeting.{AreSmall};
 ghost use Rattle.std.specs.Prelude.{◌≤◌};
 
 use crate::demanding::{Demanding, Pending, search_on_demand};
+use guiding::Answer;
 use incompatibilities::{Id, Incompatibility};
 use search_trials::terms_of;
-use searching::Answer;
 use std::alloc::{AllocError, Global};
 use std::process::Abort;
 use version_sets::States;

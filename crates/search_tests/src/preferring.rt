@@ -7,16 +7,16 @@ ghost use Rattle.incompatibilities.specs.Stores.{entries_view};
 ghost use Rattle.propagation.specs.Trails.{trail_view};
 ghost use Rattle.incompatibilities.specs.Incompatibilities.{Assignment};
 ghost use Rattle.propagation.specs.Satisfaction.{BreaksNone};
-ghost use Rattle.searching.specs.Counting.{HasCounted};
+ghost use Rattle.guiding.specs.Counting.{HasCounted};
 ghost use Rattle.incompatibilities.specs.Counts.{combinations};
-ghost use Rattle.searching.specs.Following.{IsSelection};
+ghost use Rattle.guiding.specs.Following.{IsSelection};
 ghost use Rattle.std.specs.Prelude.{◌≡◌, ◌+◌, ◌<◌, ◌≤◌, IfOk, length, slice_index_or, true};
 ghost use Rattle.version_sets.specs.Sets.{has, size};
 
 use crate::deciding::first_open;
+use guiding::{Found, Guide, least, search};
 use incompatibilities::{Id, Store};
 use propagation::Trail;
-use searching::{Found, Guide, least, search};
 use std::alloc::{AllocError, Global};
 use version_sets::States;
 

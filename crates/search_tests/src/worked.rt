@@ -7,8 +7,8 @@ ghost use Rattle.std.specs.Prelude.{IfOk};
 
 use crate::made_stores::{guide_of, put, written};
 use crate::preferring::{Lesson, search_from_full};
+use guiding::Answer;
 use incompatibilities::Store;
-use searching::Answer;
 use std::alloc::{AllocError, Global};
 use std::process::Abort;
 use version_sets::States;

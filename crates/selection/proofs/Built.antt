@@ -33,7 +33,7 @@ use Rattle.facts.specs.Graphs.{NodeView, flag_at}
 use Rattle.selection.specs.Contents.{AreInOrder, AreKept, AreListed, IsPackage, IsPlace, LeadsFrom, AreMetVersions}
 use Rattle.selection.specs.Contents.{IsThere, owner_if, owners_of, met_owner, Placed, kept_with, package_if, places_in}
 use Rattle.model.specs.ContentOf.{package_of}
-use Rattle.reaching.specs.Built.{IsBuilt}
+use Rattle.facts.specs.Built.{IsBuilt}
 use Rattle.selection.proofs.MetVersions.{once_at, rising_of, owners_once, some_is}
 use Rattle.model.proofs.Inner.{name_in, version_in}
 

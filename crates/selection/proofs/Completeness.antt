@@ -15,8 +15,8 @@ use Rattle.model.specs.Walk.{IsComplete, Picks}
 use Rattle.manifest.specs.Manifests.{root_asks}
 use Rattle.facts.specs.Graphs.{NodeView, node_view, node_views, flag_at, flag_in}
 use Rattle.facts.specs.declared.node.Node.{Node}
-use Rattle.reaching.specs.Nodes.{AreFlags, AreMet, IsLead}
-use Rattle.reaching.proofs.Found.{enabled_far, near_of, node_at, owner_there, stands}
+use Rattle.facts.specs.Nodes.{AreFlags, AreMet, IsLead}
+use Rattle.facts.proofs.Found.{enabled_far, near_of, node_at, owner_there, stands}
 use Rattle.selection.specs.Followed.{AreFollowed, PicksFollowed}
 use Rattle.selection.specs.Met.{are_met, all_met}
 use Rattle.selection.specs.Rounds.{AreEnough}

@@ -13,7 +13,7 @@ use Rattle.model.proofs.Lists.{pairs_get}
 use Rattle.model.proofs.Places.{get_push_cases}
 use Rattle.catalogue.specs.Stores.{CatalogueView, IsStore}
 use Rattle.facts.specs.Graphs.{NodeView, flag_at, flag_in}
-use Rattle.reaching.specs.Nodes.{AreLeads, IsLead}
+use Rattle.facts.specs.Nodes.{AreLeads, IsLead}
 use Rattle.selection.specs.Contents.{AreMetVersions, Grows, candidate_owner, owner_if, owners_of}
 use Rattle.selection.specs.declared.met.MetVersion.{MetVersion}
 use Rattle.selection.proofs.MetVersions.{grows_on, owner_on, owners_once}

@@ -5,9 +5,9 @@ use Rattle.std.specs.List.{All}
 use Rattle.std.proofs.lemmas.List.{append-nil, drop_all, take_all}
 use Rattle.std.proofs.lemmas.Option.{slice_get_within, none-some, same_Some}
 use Rattle.std.proofs.lemmas.List.Elements.{Contains-append_left, Contains-append_cases, Contains-append_right}
-use Rattle.chains.specs.Chains.{has, IsGiven, AreBelow}
-use Rattle.chains.specs.Chains.IsGiven.{begins, follows}
-use Rattle.chains.specs.declared.rule.Rule.{Rule}
+use Rattle.facts.specs.Chains.{has, IsGiven, AreBelow}
+use Rattle.facts.specs.Chains.IsGiven.{begins, follows}
+use Rattle.facts.specs.declared.rule.Rule.{Rule}
 use Rattle.model.specs.Content.{Package, Content, Problem}
 use Rattle.model.specs.Selection.{IsReached}
 use Rattle.model.specs.Selection.IsReached.{root as at_root, listed as by_list}

@@ -2,7 +2,7 @@
 use Rattle.std.specs.Prelude.{◌≡◌, ◌↔◌, ℕ, suc, Bool, true, false, not, is_some, if◌then◌else◌, List, [], ◌∷◌, ◌++◌}
 use Rattle.std.specs.Prelude.{Option, Some, None, slice_get, map}
 use Rattle.std.specs.Ordering.{is_eq, nat_cmp}
-use Rattle.chains.specs.declared.rule.Rule.{Rule}
+use Rattle.facts.specs.declared.rule.Rule.{Rule}
 use Rattle.facts.specs.Graphs.{node_views, flag_at, flag_in}
 use Rattle.lockfile.specs.Views.{package_views}
 use Rattle.model.specs.Facts.{enabled, on}

@@ -5,7 +5,7 @@ use Rattle.model.specs.Vertices.{Owner}
 use Rattle.model.specs.Walk.{IsComplete, IsWalk}
 use Rattle.facts.specs.Graphs.{NodeView, node_views}
 use Rattle.catalogue.specs.Stores.{CatalogueView}
-use Rattle.reaching.specs.Built.{IsBuilt}
+use Rattle.facts.specs.Built.{IsBuilt}
 use Rattle.selection.specs.Contents.{AreMetVersions, owners_of}
 use Rattle.selection.specs.Preferred.{preferred_in}
 use Rattle.selection.specs.declared.rounds.Reached.{Reached}

@@ -10,7 +10,7 @@ ghost use Rattle.lockfile.specs.Views.{package_view};
 ghost use Rattle.model.specs.Vertices.{the_root};
 ghost use Rattle.model.specs.Order.{package_cmp};
 ghost use Rattle.model.specs.ContentOf.{package_of};
-ghost use Rattle.reaching.specs.Built.{IsBuilt};
+ghost use Rattle.facts.specs.Built.{IsBuilt};
 ghost use Rattle.selection.specs.Contents.{AreInOrder, AreKept, AreMetVersions, IsThere, placed_views, kept_with};
 ghost use Rattle.selection.specs.Contents.{met_owner, owners_of, package_if};
 

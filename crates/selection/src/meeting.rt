@@ -3,7 +3,7 @@
 ghost use Rattle.std.specs.Prelude.{◌≡◌, ◌||◌, IfOk, OnOk, map, nat_eq};
 ghost use Rattle.features.specs.Views.{dependency_view, dependency_views};
 ghost use Rattle.facts.specs.Graphs.{node_views};
-ghost use Rattle.reaching.specs.Nodes.{AreMet};
+ghost use Rattle.facts.specs.Nodes.{AreMet};
 ghost use Rattle.catalogue.specs.Problems.{problem_in};
 ghost use Rattle.selection.specs.Contents.{AreMetVersions, Grows, owners_of};
 ghost use Rattle.selection.specs.Followed.{PicksFollowed, is_followed};

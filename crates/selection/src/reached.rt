@@ -9,7 +9,7 @@ ghost use Rattle.facts.specs.Graphs.{flag_at};
 ghost use Rattle.selection.specs.Graphs.{IsOnlyRoot};
 ghost use Rattle.selection.specs.Places.{rules_at, rules_from};
 
-use chains::{Rule, close};
+use facts::{Rule, close};
 use lockfile::Package;
 use std::alloc::{AllocError, Global};
 

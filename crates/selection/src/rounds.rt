@@ -2,7 +2,7 @@
 
 ghost use Rattle.std.specs.Prelude.{◌≡◌, IfOk, OnOk, map};
 ghost use Rattle.facts.specs.Graphs.{node_views};
-ghost use Rattle.reaching.specs.Nodes.{AreFlags, AreMet};
+ghost use Rattle.facts.specs.Nodes.{AreFlags, AreMet};
 ghost use Rattle.catalogue.specs.Problems.{problem_in};
 ghost use Rattle.selection.specs.Contents.{AreMetVersions, owners_of};
 ghost use Rattle.selection.specs.Followed.{PicksFollowed};

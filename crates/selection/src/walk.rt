@@ -2,7 +2,7 @@
 
 ghost use Rattle.std.specs.Prelude.{IfOk, IfSome};
 ghost use Rattle.catalogue.specs.Problems.{problem_in};
-ghost use Rattle.reaching.specs.Built.{HasBareRoot};
+ghost use Rattle.facts.specs.Built.{HasBareRoot};
 ghost use Rattle.selection.specs.Preferred.{Answers, preferred_in};
 
 use crate::building::content_of;

@@ -3,8 +3,8 @@ use Rattle.std.proofs.Common.{ℕ, ◌≤◌, List, inl, inr, arith}
 use Rattle.incompatibilities.specs.Counts.{combinations}
 use Rattle.incompatibilities.specs.Stores.{EntryView}
 use Rattle.model.specs.Derivation.{Step}
-use Rattle.refusing.specs.Refusing.{HasNoMore, combinations_of}
-use Rattle.searching.specs.Counting.{HasCounted}
+use Rattle.solver.specs.Refusing.{HasNoMore, combinations_of}
+use Rattle.guiding.specs.Counting.{HasCounted}
 
 pub combined_counted : {es : List EntryView} {d : List Step} {steps : ℕ} → HasNoMore es d
     → HasCounted (combinations es) 0 steps → combinations_of d ≤ steps

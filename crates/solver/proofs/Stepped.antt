@@ -7,14 +7,14 @@ use Rattle.model.specs.Search.{IsUnbroken}
 use Rattle.model.specs.Selection.{IsValidSelection}
 use Rattle.model.specs.WellFormed.{IsCatalogue}
 use Rattle.numbering.specs.Assignments.{IsOf, state_of}
-use Rattle.searching.specs.Following.{IsSelection}
-use Rattle.searching.specs.declared.turns.Answer.{Answer}
-use Rattle.searching.specs.declared.turns.Answer.TheVariants as answers
+use Rattle.guiding.specs.Following.{IsSelection}
+use Rattle.guiding.specs.declared.turns.Answer.{Answer}
+use Rattle.guiding.specs.declared.turns.Answer.TheVariants as answers
 use Rattle.guiding.specs.Guides.{CanFollow, EncodedView, HasFound, HasSearched, final_of}
-use Rattle.reaching.specs.Built.{HasBareRoot}
-use Rattle.reaching.proofs.Followed.{follows}
-use Rattle.gathering.proofs.Assigned.{packages_assigned}
-use Rattle.gathering.proofs.Left.{agrees_with}
+use Rattle.facts.specs.Built.{HasBareRoot}
+use Rattle.facts.proofs.Followed.{follows}
+use Rattle.solver.proofs.Assigned.{packages_assigned}
+use Rattle.solver.proofs.Left.{agrees_with}
 use Rattle.solver.specs.Solving.{HasStepEach, IsAnswer}
 use Rattle.solver.specs.declared.solving.Outcome.{Outcome}
 use Rattle.solver.specs.declared.solving.Outcome.TheVariants.{Selection, Unsolvable}

@@ -3,8 +3,8 @@ use Rattle.std.specs.Prelude.{◌≡◌, ◌≤◌, ◌⊎◌, ℕ, List, [], le
 use Rattle.model.specs.Content.{Candidate, Content, Problem}
 use Rattle.model.specs.Derivation.{IsAccepted, Step}
 use Rattle.model.specs.Selection.{IsValidSelection}
-use Rattle.reaching.specs.Built.{HasBareRoot}
-use Rattle.reaching.specs.Followed.{IsBrought}
+use Rattle.facts.specs.Built.{HasBareRoot}
+use Rattle.facts.specs.Followed.{IsBrought}
 use Rattle.selection.specs.Preferred.{IsPreferred}
 use Rattle.solver.specs.declared.solving.Outcome.{Outcome}
 use Rattle.solver.specs.declared.solving.Outcome.TheVariants.{Selection, Unsolvable}

@@ -7,27 +7,28 @@ ghost use Rattle.numbering.specs.KnownProblem.{problem};
 ghost use Rattle.guiding.specs.Guides.{HasSearched, IsOfInstance};
 ghost use Rattle.numbering.specs.Numberings.{IsNumbering};
 ghost use Rattle.propagation.specs.Trails.{trail_view};
-ghost use Rattle.refusing.specs.Refusing.{HasNoMore, axioms_of, combinations_of};
-ghost use Rattle.searching.specs.Searching.{IsRefutation};
-ghost use Rattle.searching.specs.Following.{AreGiven};
+ghost use Rattle.solver.specs.Refusing.{HasNoMore, axioms_of, combinations_of};
+ghost use Rattle.guiding.specs.Searching.{IsRefutation};
+ghost use Rattle.guiding.specs.Following.{AreGiven};
 ghost use Rattle.solver.specs.Solving.{HasStepEach, IsAnswer, IsFound, IsSolved, IsUnsolvable, derivation_of};
 ghost use Rattle.selection.specs.Preferred.{preferred_in};
-ghost use Rattle.unrolling.specs.Flats.{LieSomewhere};
+ghost use Rattle.solver.specs.Flats.{LieSomewhere};
 
 use crate::counting::axioms_in;
-use catalogue::{Catalogue, catalogues_are_well_formed};
+use crate::laws::instances_have_their_kinds;
+use crate::refuting::refusal;
+use crate::selected::content;
+use catalogue::{
+    Catalogue, accepted_derivations_refute, catalogues_are_well_formed, parts_are_valid,
+};
 use derivations::Derivation;
 use features::{FeatureName, NameFault};
-use gathering::content;
-use guiding::{Encoded, Searched, search_over};
+use guiding::{Answer, Encoded, Searched, search_over};
 use incompatibilities::{Id, Store};
-use laws::{accepted_derivations_refute, parts_are_valid};
 use lockfile::LockContent;
 use manifest::Manifest;
 use model::walks_are_unique;
 use numbering::{KnownProblem, Matched, Table};
-use refusing::{instances_have_their_kinds, refusal};
-use searching::Answer;
 use selection::preferred;
 use std::alloc::{AllocError, Global};
 use version_sets::{States, WordStates};

@@ -5,8 +5,7 @@ use crate::naming::{push_dependency, push_owner};
 use crate::ranges::{is_every, push_before, push_versions};
 use classes::Class;
 use features::{FeatureName, PackageName};
-use looking_up::{Problem, dependency_at};
-use named_terms::{StateSet, Term};
+use lookups::{Problem, StateSet, Term, dependency_at};
 use std::alloc::{AllocError, Global};
 use vertices::{OwnerRef, StateRef, VertexRef};
 

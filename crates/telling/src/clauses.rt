@@ -3,7 +3,7 @@
 use crate::facts::{Facts, Rank};
 use crate::outline::Premise;
 use crate::ranges::push_before;
-use looking_up::Problem;
+use lookups::Problem;
 use std::alloc::{AllocError, Global};
 
 /// What a clause says.

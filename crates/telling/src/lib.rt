@@ -6,7 +6,7 @@
 //! are told is a definition, and a law says of it that each sentence follows from its premises, down to what axioms
 //! say.
 //!
-//! What an axiom says is told by the cause that its terms can have, which `causes` finds (`axiom.rt`). What is said of
+//! What an axiom says is told by the cause that its terms can have, which `lookups` finds (`axiom.rt`). What is said of
 //! several versions of a name is one fact (`facts.rt`), so that thirty versions that need the same are told at once.
 //! Versions stand as ranges over the candidates of their name (`spans.rt`, `ranges.rt`), from marks that say which of
 //! them a term means (`marks.rt`).

@@ -7,14 +7,13 @@ ghost use Rattle.model.specs.Selection.{class_of};
 ghost use Rattle.model.specs.Vertices.{same_class};
 ghost use Rattle.classes.specs.Classes.{class_view};
 ghost use Rattle.vertices.specs.RefViews.{state_ref_view};
-ghost use Rattle.looking_up.specs.Matching.{is_lacking};
-ghost use Rattle.looking_up.specs.Views.{problem_view};
+ghost use Rattle.lookups.specs.Matching.{is_lacking};
+ghost use Rattle.lookups.specs.Views.{problem_view};
 ghost use Rattle.telling.specs.Marks.{is_among, is_target_of, is_version_of};
 
 use classes::{Class, is_matched};
 use features::{FeatureName, PackageName};
-use looking_up::{Problem, is_lacking};
-use named_terms::StateSet;
+use lookups::{Problem, StateSet, is_lacking};
 use semver::{Version, VersionReq};
 use std::alloc::{AllocError, Global};
 use vertices::{StateRef, same_state};

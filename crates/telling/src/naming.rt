@@ -1,7 +1,7 @@
 //! How the owners and dependencies that a derivation speaks of are called.
 
 use features::DependencyParts;
-use looking_up::{Problem, dependency_at, is_unmatched};
+use lookups::{Problem, dependency_at, is_unmatched};
 use std::alloc::AllocError;
 use vertices::OwnerRef;
 

@@ -6,7 +6,7 @@ use crate::facts::{Facts, facts_of};
 use crate::outline::{Premise, Sentence, sentences_of};
 use crate::terms::terms_of;
 use derivations::Derivation;
-use looking_up::Problem;
+use lookups::Problem;
 use std::alloc::{AllocError, Global};
 
 /// How many lines are told at most, unless all are asked for.

@@ -2,12 +2,12 @@
 
 ghost use Rattle.std.specs.Prelude.{◌≡◌, IfOk, slice_get};
 ghost use Rattle.std.specs.List.{AllByRecursion};
-ghost use Rattle.named_terms.specs.Views.{term_view, term_views};
+ghost use Rattle.lookups.specs.TermViews.{term_view, term_views};
 ghost use Rattle.derivations.specs.Tables.{term_at, terms_at};
 ghost use Rattle.telling.specs.Terms.{IsOrderedTerm, terms_if};
 
 use derivations::{Derivation, Tables, states_in};
-use named_terms::{StateSet, Term};
+use lookups::{StateSet, Term};
 use std::alloc::{AllocError, Global};
 
 /// The terms of the step of this number, if there is one.

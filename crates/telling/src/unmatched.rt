@@ -2,11 +2,9 @@
 
 use crate::facts::kind_of;
 use crate::terms::terms_of;
-use causes::{Numbers, cause_in};
 use derivations::Derivation;
 use features::DependencyParts;
-use looking_up::{Problem, dependency_at, is_unmatched};
-use named_terms::Cause;
+use lookups::{Cause, Numbers, Problem, cause_in, dependency_at, is_unmatched};
 use std::alloc::{AllocError, Global};
 use vertices::OwnerRef;
 

@@ -2,7 +2,7 @@
 //!
 //! The definition of what words mean is `clap`'s own, for the program's commands as a literal (`specs/Asked`); the code
 //! builds the same commands and takes the values out of what `clap` matched. It stands alone in a crate, since `clap`
-//! is dear to check and only the words of `cargo relock` (`cargo_words`) need it too.
+//! is dear to check and only the words of `cargo relock` (`cargo_commands`) need it too.
 //!
 //! A bare `relock` asks for help, with status 0 (`or_help`).
 //!

@@ -1,9 +1,18 @@
 //! `worked_cases FOLDER`: plays the cases of a folder through runs of `relock` and of `cargo-relock`, and says which
 //! commands end otherwise than told. One program plays both, since each has to load all that stands below it.
+//!
+//! What a case is, and what its commands may be, is told in `cases.rt`.
 #![tactic(auto)]
 
+mod case;
+mod cases;
+mod helping;
+mod sessions;
+mod sink;
+
+use crate::case::Programs;
+use crate::cases::play_cases;
 use cargo_commands::{Surroundings, run as tell};
-use cases::{Programs, play_cases};
 use commands::run;
 use std::io::{self, Write};
 use std::process::ExitCode;

@@ -1,9 +1,9 @@
 //! What the calls of `resolver` answer.
 
+use crate::reading::Bytes;
 use catalogue::{Catalogue, Prefer, Source, SourceFault};
 use index_reader::Folder;
 use manifest::Manifest;
-use project_files::Bytes;
 use reports::Inputs;
 use resolver::{Answer, Fault, resolve, verify_bytes_keeping};
 use selection::Verdict;

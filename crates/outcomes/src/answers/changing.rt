@@ -2,11 +2,11 @@
 
 use crate::answers::asking::inputs_in;
 use crate::answers::form::Form;
+use crate::reading::Bytes;
 use catalogue::{Catalogue, Prefer};
 use derivations::Derivation;
 use index_reader::Folder;
 use manifest_faults::dependency_lines;
-use project_files::Bytes;
 use reports::{Inputs, LackTold, lacks_told};
 use resolver::Fault;
 use std::alloc::{AllocError, Global};
@@ -40,11 +40,11 @@ pub(crate) fn changes_in<F: Folder>(
     let text = match form {
         Form::People => reports::changes_to(alloc, &catalogue, &inputs, &content, all)?,
         Form::Programs => {
-            let lock = messages::NewLock {
+            let lock = reports::messages::NewLock {
                 path,
                 changed: !new.kept,
             };
-            messages::changes_to(alloc, &catalogue, &inputs, &content, lock, all)?
+            reports::messages::changes_to(alloc, &catalogue, &inputs, &content, lock, all)?
         }
     };
     Ok(text)
@@ -66,7 +66,7 @@ pub(crate) fn refusal_in<F: Folder>(
     let catalogue = reports::loaded(alloc, folder, &inputs)?;
     let lacks = match form {
         Form::People => lacks_in(alloc, folder, path, bytes, &catalogue, &inputs)?,
-        Form::Programs => messages::lacks_of(alloc, folder, &catalogue, &inputs)?,
+        Form::Programs => reports::messages::lacks_of(alloc, folder, &catalogue, &inputs)?,
     };
     if !lacks.is_empty() {
         return Ok(lacks);
@@ -77,7 +77,7 @@ pub(crate) fn refusal_in<F: Folder>(
     };
     match form {
         Form::People => Ok(why),
-        Form::Programs => Ok(messages::refusal(alloc, why.as_str())?),
+        Form::Programs => Ok(reports::messages::refusal(alloc, why.as_str())?),
     }
 }
 

@@ -2,8 +2,8 @@
 
 use crate::answers::asking::{inputs_in, lock_in};
 use crate::answers::form::Form;
+use crate::reading::Bytes;
 use index_reader::Folder;
-use project_files::Bytes;
 use resolver::Fault;
 use selection::Verdict;
 use std::alloc::{AllocError, Global};
@@ -16,7 +16,7 @@ pub(crate) fn verdict_in(
 ) -> Result<String, AllocError> {
     match form {
         Form::People => format!(in alloc; "{verdict}\n"),
-        Form::Programs => messages::verdict(alloc, verdict),
+        Form::Programs => reports::messages::verdict(alloc, verdict),
     }
 }
 
@@ -30,7 +30,7 @@ pub(crate) fn flaws_in<F: Folder>(
     let inputs = inputs_in(alloc, bytes)?;
     let text = match form {
         Form::People => reports::flaws_of_lock(alloc, folder, &inputs, lock_in(bytes))?,
-        Form::Programs => messages::flaws_of_lock(alloc, folder, &inputs)?,
+        Form::Programs => reports::messages::flaws_of_lock(alloc, folder, &inputs)?,
     };
     Ok(text)
 }

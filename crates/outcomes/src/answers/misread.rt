@@ -2,8 +2,8 @@
 
 use crate::answers::form::Form;
 use manifest::Manifest;
-use misreadings::Misreading;
 use std::alloc::{AllocError, Global};
+use tables::Misreading;
 
 /// Where and why the bytes of a lock don't read; nothing where they do.
 pub(crate) fn misreading_in(
@@ -37,6 +37,11 @@ pub(crate) fn manifest_misreading_in(
 fn told(alloc: Global, path: &str, found: &Misreading, form: Form) -> Result<String, AllocError> {
     match form {
         Form::People => found.told(alloc, path),
-        Form::Programs => messages::misreading(alloc, path, found.line, found.why.as_str()),
+        Form::Programs => reports::messages::misreading(
+            alloc,
+            path,
+            found.line,
+            found.why.as_str(),
+        ),
     }
 }

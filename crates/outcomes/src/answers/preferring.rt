@@ -1,8 +1,8 @@
 //! What Cargo goes by beside what a resolution needs: which versions it prefers, and the format of a lock.
 
 use crate::answers::asking::lock_in;
+use crate::reading::Bytes;
 use catalogue::Prefer;
-use project_files::Bytes;
 use std::alloc::{AllocError, Global};
 use tables::read_table;
 use toml::Table;

@@ -1,8 +1,8 @@
 //! Going on where the old lock can't be read.
 
+use crate::reading::Bytes;
 use lock_faults::{Readable, readable_part};
 use lockfile::LockFault;
-use project_files::Bytes;
 use resolver::Fault;
 use std::alloc::{AllocError, Global};
 

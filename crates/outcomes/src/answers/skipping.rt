@@ -2,9 +2,9 @@
 
 use crate::answers::asking::inputs_in;
 use crate::answers::form::Form;
+use crate::reading::Bytes;
 use changes::tell_skips;
 use index_reader::{Folder, Skip};
-use project_files::Bytes;
 use reports::{loaded, skips_at};
 use resolver::Fault;
 use std::alloc::{AllocError, Global};
@@ -37,6 +37,6 @@ pub(crate) fn skips_in_all<F: Folder>(
 fn told(alloc: Global, skips: &[Skip], form: Form, all: bool) -> Result<String, AllocError> {
     match form {
         Form::People => tell_skips(alloc, skips, all),
-        Form::Programs => messages::skips(alloc, skips, all),
+        Form::Programs => reports::messages::skips(alloc, skips, all),
     }
 }

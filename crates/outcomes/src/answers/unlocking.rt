@@ -2,10 +2,10 @@
 
 use crate::answers::asking::{inputs_in, lock_in};
 use crate::answers::why::meant_in;
+use crate::reading::Bytes;
 use crate::why::{NoWay, Question};
 use lock_faults::{LeftOut, Readable, part_without};
 use lockfile::LockContent;
-use project_files::Bytes;
 use reports::{Inputs, Meant, Wanted};
 use resolver::Fault;
 use std::alloc::{AllocError, Global};

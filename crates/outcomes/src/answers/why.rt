@@ -27,7 +27,7 @@ pub(crate) fn way_in(
     };
     match form {
         Form::People => tell_steps(alloc, &steps),
-        Form::Programs if all => messages::dependencies(alloc, &steps),
-        Form::Programs => messages::way(alloc, &steps),
+        Form::Programs if all => reports::messages::dependencies(alloc, &steps),
+        Form::Programs => reports::messages::way(alloc, &steps),
     }
 }

@@ -1,6 +1,6 @@
 use Rattle.std.proofs.Common.{◌∙◌, true}
 use Rattle.classes.specs.Classes.{class_view}
-use Rattle.looking_up.proofs.Classed.{any_classed}
+use Rattle.lookups.proofs.Classed.{any_classed}
 use Rattle.axioms.proofs.has_feature.has_candidate.Goals as goal
 
 pub returns : goal.returns

@@ -1,7 +1,7 @@
 use Rattle.std.proofs.Common.{◌∙◌, ap}
 use Rattle.std.specs.List.{list_any}
-use Rattle.known_pairs.specs.Asking.{row_names}
-use Rattle.known_pairs.proofs.Asked.{rows_ask}
+use Rattle.axioms.specs.Asking.{row_names}
+use Rattle.axioms.proofs.Asked.{rows_ask}
 use Rattle.axioms.proofs.wants_feature.root_asks.Goals as goal
 
 pub returns : goal.returns

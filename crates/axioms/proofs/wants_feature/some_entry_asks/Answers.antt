@@ -2,7 +2,7 @@ use Rattle.std.proofs.Common.{◌∙◌, ap, sym}
 use Rattle.semver.specs.Identifiers.{parts_of}
 use Rattle.features.specs.Views as features
 use Rattle.model.specs.Vertices.{owner_brings, version_of}
-use Rattle.looking_up.specs.Views.{problem_view}
+use Rattle.lookups.specs.Views.{problem_view}
 use Rattle.features.specs.Views.{brings_view}
 use Rattle.axioms.proofs.WantsFeature.{owner_asks_is}
 use Rattle.axioms.proofs.wants_feature.some_entry_asks.Goals as goal

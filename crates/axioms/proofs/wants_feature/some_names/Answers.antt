@@ -1,4 +1,4 @@
-use Rattle.known_pairs.specs.Asking.{row_names}
+use Rattle.axioms.specs.Asking.{row_names}
 use Rattle.axioms.proofs.wants_feature.some_names.Goals as goal
 
 pub returns : goal.returns

@@ -1,7 +1,7 @@
 use Rattle.std.proofs.Common.{◌≡◌}
 use Rattle.std.specs.List.{list_any}
 use Rattle.features.specs.Tables.{rows_of}
-use Rattle.known_pairs.specs.Asking.{row_names}
+use Rattle.axioms.specs.Asking.{row_names}
 use Rattle.axioms.proofs.wants_feature.some_row_names.Given as goal
 
 -- some row of those that are left passes where one of all does

@@ -1,7 +1,7 @@
 use Rattle.std.proofs.Common.{◌≡◌, ◌∙◌, Bool, List, ap, length, map, option_map, subst, subst₂, sym}
 use Rattle.std.proofs.lemmas.Result.{IfOk-weaker}
 use Rattle.semver.specs.Identifiers.{parts_of}
-use Rattle.chains.specs.Chains.{AreBelow}
+use Rattle.facts.specs.Chains.{AreBelow}
 use Rattle.model.specs.Content.{Package}
 use Rattle.changes.specs.OnWays.{AreBetween, AreOnWays, all_pairs, rules_ahead, rules_back}
 use Rattle.changes.specs.Ways.{is_meant, is_own}

@@ -1,5 +1,5 @@
 use Rattle.std.proofs.Common.{◌≡◌, take}
-use Rattle.named_terms.specs.Views.{term_views}
+use Rattle.lookups.specs.TermViews.{term_views}
 use Rattle.derivations.specs.Tables.{terms_at}
 use Rattle.checker.specs.Ready.{tables_of}
 use Rattle.checker.proofs.preparing.terms_in.Given as goal

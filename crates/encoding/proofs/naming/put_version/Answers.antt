@@ -9,7 +9,7 @@ use Rattle.model.specs.Vertices.{Vertex, pkg, version_of}
 use Rattle.catalogue.specs.Views.{said_by}
 use Rattle.catalogue.specs.declared.candidate.Candidate.{Candidate}
 use Rattle.numbering.specs.KnownProblem.{problem}
-use Rattle.looking_up.proofs.Brought.{is_there, not_there}
+use Rattle.lookups.proofs.Brought.{is_there, not_there}
 use Rattle.vertices.specs.RefViews.{vertex_ref_view}
 use Rattle.encoding.specs.Everything.{of_dependency, of_table}
 use Rattle.numbering.specs.CausesAt.{each_from}

@@ -1,5 +1,5 @@
 use Rattle.std.proofs.Common.{arith}
-use Rattle.searching.proofs.Guides.{none_size}
+use Rattle.guiding.proofs.Guides.{none_size}
 use Rattle.guiding.proofs.choosing.greatest.Goals as goal
 
 pub returns : goal.returns

@@ -1,8 +1,8 @@
 use Rattle.std.proofs.Common.{◌≡◌, ◌<◌, ◌+◌, ℕ, suc, length, map, true, sym, subst, arith, None}
 use Rattle.propagation.specs.Trails.{set_of, step_at, trail_view}
 use Rattle.propagation.proofs.Back.{sets_long}
-use Rattle.searching.specs.Searching.{IsOnly, IsSeen}
-use Rattle.searching.proofs.Seen.{seen_next}
+use Rattle.guiding.specs.Searching.{IsOnly, IsSeen}
+use Rattle.guiding.proofs.Seen.{seen_next}
 use Rattle.guiding.specs.Guides.{IsOpenAt, asked_of}
 use Rattle.guiding.proofs.opening.next_open.Goals as goal
 

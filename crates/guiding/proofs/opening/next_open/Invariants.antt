@@ -1,6 +1,6 @@
 use Rattle.std.proofs.Common.{length, map, ◌-◌}
 use Rattle.propagation.specs.Trails.{trail_view}
-use Rattle.searching.specs.Searching.{IsSeen}
+use Rattle.guiding.specs.Searching.{IsSeen}
 use Rattle.guiding.specs.Guides.{asked_of}
 use Rattle.guiding.proofs.opening.next_open.Given as goal
 

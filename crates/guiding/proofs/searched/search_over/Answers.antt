@@ -4,7 +4,7 @@ use Rattle.propagation.specs.Promises.{LieIn}
 use Rattle.propagation.specs.Trails.{trail_view}
 use Rattle.numbering.specs.KnownProblem.{problem}
 use Rattle.incompatibilities.specs.Counts.{combinations}
-use Rattle.searching.specs.Counting.{HasCounted}
+use Rattle.guiding.specs.Counting.{HasCounted}
 use Rattle.guiding.proofs.Ended.{searched_of}
 use Rattle.guiding.proofs.searched.search_over.Goals as goal
 

@@ -2,7 +2,7 @@ use Rattle.std.proofs.Common.{◌≡◌, ◌++◌}
 use Rattle.std.specs.Vec.Iter.{into_iter_items}
 use Rattle.model.specs.Axioms.{without_full}
 use Rattle.instances.specs.KeptViews.{problem_of}
-use Rattle.named_terms.specs.Views.{term_views}
+use Rattle.lookups.specs.TermViews.{term_views}
 use Rattle.instances.proofs.full_terms.without_full.Given as goal
 
 -- those taken so far, with those of the terms that are left, are those of all

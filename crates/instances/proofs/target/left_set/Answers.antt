@@ -4,7 +4,7 @@ use Rattle.features.specs.Views.{dependency_view, requirement_view}
 use Rattle.classes.specs.Classes.{class_view}
 use Rattle.vertices.specs.Orders.{state_cmp}
 use Rattle.model.specs.Vertices.{absent}
-use Rattle.looking_up.specs.Matching.{is_left}
+use Rattle.lookups.specs.Matching.{is_left}
 use Rattle.instances.proofs.Rising.{absent_first}
 use Rattle.instances.proofs.Matched.{left_is}
 use Rattle.instances.proofs.target.left_set.Goals as goal

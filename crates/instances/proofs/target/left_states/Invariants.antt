@@ -2,8 +2,8 @@ use Rattle.std.proofs.Common.{◌≡◌, ◌++◌, ◌∷◌, map, drop}
 use Rattle.semver.specs.Identifiers.{parts_of}
 use Rattle.features.specs.Views.{requirement_view}
 use Rattle.model.specs.Vertices.{absent}
-use Rattle.looking_up.specs.Matching.{is_left}
-use Rattle.looking_up.specs.Ranges.{versions_with}
+use Rattle.lookups.specs.Matching.{is_left}
+use Rattle.lookups.specs.Ranges.{versions_with}
 use Rattle.vertices.specs.RefViews.{state_ref_views}
 use Rattle.instances.proofs.target.left_states.Given as goal
 

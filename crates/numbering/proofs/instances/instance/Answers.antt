@@ -3,7 +3,7 @@ use Rattle.terms.specs.Terms.{terms_view}
 use Rattle.model.proofs.Accepted.{instance_apart}
 use Rattle.refutations.specs.Causes.{kind_of, terms_of_cause}
 use Rattle.refutations.proofs.CauseLaws.{cause_instance}
-use Rattle.named_terms.specs.CauseViews.{cause_view}
+use Rattle.lookups.specs.CauseViews.{cause_view}
 use Rattle.numbering.specs.KnownProblem.{problem}
 use Rattle.numbering.specs.TestedTerms.{AreOfTested, tested_views}
 use Rattle.numbering.proofs.Adds.{cause_adds}

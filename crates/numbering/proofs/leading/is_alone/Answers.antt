@@ -2,7 +2,7 @@ use Rattle.std.proofs.Common.{rules, ◌∙◌, sym, nat_eq}
 use Rattle.std.proofs.lemmas.Iterator.{YieldsList-from_slice}
 use Rattle.std.proofs.lemmas.Iterator.Search.{all_from_yields_List}
 use borrow.Author.Tests.{tests}
-use Rattle.named_terms.proofs.SetLaws.{all_map}
+use Rattle.lookups.proofs.SetLaws.{all_map}
 use Rattle.numbering.specs.Called.{numbered_view}
 use Rattle.numbering.specs.declared.called.Numbered.{Numbered}
 use Rattle.numbering.proofs.leading.is_alone.Goals as goal

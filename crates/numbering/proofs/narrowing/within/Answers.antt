@@ -7,8 +7,8 @@ use Rattle.semver.specs.EvalViews.{matches_views}
 use Rattle.semver.specs.Identifiers.{comparator_view, parts_of}
 use Rattle.classes.specs.Classes.{class_view}
 use Rattle.features.specs.Views.{requirement_view}
-use Rattle.looking_up.specs.Ranges.{AreRising, is_of}
-use Rattle.looking_up.proofs.Pieces.{parts_filtered}
+use Rattle.lookups.specs.Ranges.{AreRising, is_of}
+use Rattle.lookups.proofs.Pieces.{parts_filtered}
 use Rattle.numbering.specs.Narrowed.{MatchOnly}
 use Rattle.numbering.proofs.Pinned.{left_out, no_more}
 use Rattle.numbering.proofs.narrowing.within.Goals as goal

@@ -1,4 +1,4 @@
-use Rattle.named_terms.specs.CauseViews.{cause_view}
+use Rattle.lookups.specs.CauseViews.{cause_view}
 use Rattle.numbering.specs.KnownProblem.{problem}
 use Rattle.numbering.proofs.AddLaws.{given_put}
 use Rattle.numbering.proofs.pair_axioms.put_instance.Goals as goal

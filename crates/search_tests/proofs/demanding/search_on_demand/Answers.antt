@@ -2,7 +2,7 @@ use Rattle.std.proofs.Common.{List, length, ℕ, ap, arith, subst, map}
 use Rattle.incompatibilities.specs.Stores.{entries_view}
 use Rattle.propagation.specs.Promises.{IsNew}
 use Rattle.propagation.specs.Trails.{trail_view}
-use Rattle.searching.proofs.Seen.{seen_none}
+use Rattle.guiding.proofs.Seen.{seen_none}
 use Rattle.search_tests.specs.Demands.{asked_of}
 use Rattle.search_tests.proofs.Beginnings.{has_spaces}
 use Rattle.search_tests.proofs.Demanded.{ones_asked}

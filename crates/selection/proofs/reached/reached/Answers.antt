@@ -1,6 +1,6 @@
 use Rattle.std.proofs.Common.{◌≡◌, ◌↔◌, ℕ, true, length, ◌∙◌, sym, ap, subst, subst₂, arith}
 use Rattle.std.proofs.lemmas.List.{length-map}
-use Rattle.chains.specs.Chains.{has, AreBelow}
+use Rattle.facts.specs.Chains.{has, AreBelow}
 use Rattle.lockfile.specs.Views.{package_view, package_views}
 use Rattle.selection.proofs.Reaching.{rules_below, closed}
 use Rattle.selection.proofs.reached.reached.Goals as goal

@@ -1,7 +1,7 @@
 use Rattle.std.proofs.Common.{map, refl}
 use Rattle.catalogue.specs.Problems.{problem_in}
 use Rattle.selection.specs.Contents.{owners_of}
-use Rattle.reaching.proofs.Found.{is_graph}
+use Rattle.facts.proofs.Found.{is_graph}
 use Rattle.selection.specs.Followed.{PicksFollowed}
 use Rattle.selection.specs.Preferred.{preferred_in}
 use Rattle.selection.proofs.rounds.follow.Goals as goal

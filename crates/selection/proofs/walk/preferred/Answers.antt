@@ -4,7 +4,7 @@ use Rattle.model.specs.Walk.{Picks}
 use Rattle.model.proofs.Unique.{one_content}
 use Rattle.facts.specs.Graphs.{node_views}
 use Rattle.catalogue.specs.Problems.{problem_in}
-use Rattle.reaching.specs.Built.{IsBuilt}
+use Rattle.facts.specs.Built.{IsBuilt}
 use Rattle.selection.specs.Contents.{owners_of}
 use Rattle.selection.specs.Preferred.{preferred_in}
 use Rattle.selection.specs.Rounds.{IsReached, Reaches}

@@ -4,7 +4,7 @@ use Rattle.numbering.specs.KnownProblem.{problem}
 use Rattle.guiding.specs.Guides.{HasSearched}
 use Rattle.incompatibilities.specs.Stores.{entries_view}
 use Rattle.propagation.specs.Trails.{trail_view}
-use Rattle.refusing.specs.Refusing.{HasNoMore}
+use Rattle.solver.specs.Refusing.{HasNoMore}
 use Rattle.solver.specs.Solving.{IsAnswer, IsFound}
 use Rattle.solver.proofs.Followed.{followed-answers, followed-derives_nothing, found-answers}
 use Rattle.solver.proofs.solving.outcome_of.Goals as goal

@@ -1,6 +1,6 @@
 use Rattle.std.proofs.Common.{◌∙◌, ◌&&◌, sym}
 use Rattle.std.specs.List.{list_all}
-use Rattle.named_terms.proofs.SetLaws.{and_then, and_else}
+use Rattle.lookups.proofs.SetLaws.{and_then, and_else}
 use Rattle.checker.specs.Claims.{claim_first, claim_problem, claim_second, claim_terms, claim_vertex, fits_claim}
 use Rattle.checker.specs.Claims.{fits_or_said_claim}
 use Rattle.checker.proofs.CombinationLaws.{all_fit_is}

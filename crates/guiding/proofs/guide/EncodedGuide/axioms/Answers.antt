@@ -3,11 +3,11 @@ use Rattle.std.specs.Prelude.{IfSome}
 use Rattle.incompatibilities.specs.Stores.{entries_view}
 use Rattle.propagation.specs.Trails.{trail_view}
 use Rattle.numbering.specs.KnownProblem.{problem}
-use Rattle.searching.specs.Searching.{HasSpaces, IsSeen}
-use Rattle.searching.specs.Turning.{IsAdding}
-use Rattle.searching.specs.Following as following
-use Rattle.searching.specs.Following.{KeepsFollowed}
-use Rattle.searching.proofs.Guides.{adding_nothing}
+use Rattle.guiding.specs.Searching.{HasSpaces, IsSeen}
+use Rattle.guiding.specs.Turning.{IsAdding}
+use Rattle.guiding.specs.Following as following
+use Rattle.guiding.specs.Following.{KeepsFollowed}
+use Rattle.guiding.proofs.Guides.{adding_nothing}
 use Rattle.guiding.specs.Guides.{AreStored, CanAsk, EncodedView, Follows, IsNextOpen, IsOfInstance, asked_of}
 use Rattle.guiding.specs.Guides.{encoded_view, late_with, left_with}
 use Rattle.guiding.proofs.Adding.{IsAsked, asked_adding, asked_given, asked_seen, asked_spaces, asked_stored}

@@ -1,7 +1,7 @@
 use Rattle.std.proofs.Common.{◌≡◌, ◌<◌, ℕ, length, subst, sym, arith, List, map}
 use Rattle.propagation.specs.Trails.{set_of, trail_view}
 use Rattle.propagation.proofs.Vertices.{view_at}
-use Rattle.searching.specs.Searching.{IsOnly}
+use Rattle.guiding.specs.Searching.{IsOnly}
 use Rattle.search_tests.specs.Demands.{pair_at}
 use Rattle.search_tests.specs.declared.demanding.Pending.{Pending}
 use Rattle.search_tests.proofs.Demanded.{one_more}

@@ -1,6 +1,6 @@
 use Rattle.std.proofs.Common.{◌<◌, ℕ, length, List, map}
 use Rattle.propagation.specs.Trails.{set_of, trail_view}
-use Rattle.searching.specs.Searching.{IsOnly}
+use Rattle.guiding.specs.Searching.{IsOnly}
 use Rattle.search_tests.specs.Demands.{pair_at}
 use Rattle.search_tests.specs.declared.demanding.Pending.{Pending}
 use Rattle.search_tests.proofs.demanding.Demanding.first_alone.Given as goal

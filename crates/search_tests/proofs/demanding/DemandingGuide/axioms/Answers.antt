@@ -5,10 +5,10 @@ use Rattle.incompatibilities.specs.Stores.{entries_view}
 use Rattle.propagation.specs.Trails.{trail_view}
 use Rattle.propagation.specs.Widening.{sum_of}
 use Rattle.propagation.proofs.Vertices.{view_at}
-use Rattle.searching.specs.Searching.{HasSpaces}
-use Rattle.searching.specs.Turning.{IsAdding}
-use Rattle.searching.proofs.Guides.{spaces_wider}
-use Rattle.searching.proofs.Seen.{seen_none}
+use Rattle.guiding.specs.Searching.{HasSpaces}
+use Rattle.guiding.specs.Turning.{IsAdding}
+use Rattle.guiding.proofs.Guides.{spaces_wider}
+use Rattle.guiding.proofs.Seen.{seen_none}
 use Rattle.search_tests.specs.Demands.{HasCome, IsPutOf, asked_of, pair_at}
 use Rattle.search_tests.specs.declared.demanding.Pending.{Pending}
 use Rattle.search_tests.proofs.Demanded.{adding_none, adding_one, map-remove, ones_asked}

@@ -1,7 +1,7 @@
 use Rattle.std.proofs.Common.{arith, true, refl}
 use Rattle.incompatibilities.specs.Stores.{entries_view}
 use Rattle.propagation.specs.Trails.{trail_view}
-use Rattle.searching.proofs.Guides.{adding_nothing}
+use Rattle.guiding.proofs.Guides.{adding_nothing}
 use Rattle.search_tests.proofs.preferring.PreferringGuide.axioms.Goals as goal
 
 pub returns-clause-adding : goal.returns-clause-adding

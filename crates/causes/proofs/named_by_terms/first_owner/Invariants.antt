@@ -1,9 +1,0 @@
-use Rattle.std.proofs.Common.{◌≡◌, drop}
-use Rattle.refutations.specs.Instances.{first_read, owner_read}
-use Rattle.named_terms.specs.Views.{term_views}
-use Rattle.causes.proofs.named_by_terms.first_owner.Given as goal
-
--- the first among the terms that are left is the first of all
-abbrev pub invariant-terms : goal.invariant-terms
-invariant-terms l =
-    first_read owner_read (term_views (drop l.term-index l.terms)) ≡ first_read owner_read (term_views l.terms)

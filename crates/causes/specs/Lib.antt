@@ -1,4 +1,0 @@
-pub mod Needs
-pub mod Numbers
-pub mod NumbersViews
-pub mod NamedByTerms

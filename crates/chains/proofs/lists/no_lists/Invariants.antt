@@ -1,9 +1,0 @@
-use Rattle.std.proofs.Common.{◌≡◌, length}
-use Rattle.chains.specs.Lists.{rule_lists, no_lists}
-use Rattle.chains.proofs.lists.no_lists.Given as goal
-
-abbrev pub invariant-facts : goal.invariant-facts
-invariant-facts l = record {
-  length : length l.lists.items ≡ l.counter;
-  lists : rule_lists l.lists.items ≡ no_lists l.counter;
-}

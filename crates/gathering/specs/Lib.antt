@@ -1,2 +1,0 @@
-pub use Rattle.reaching.specs.Nodes
-pub mod Leads

@@ -1,5 +1,0 @@
-pub mod Asked
-pub mod Recorded
-pub mod Featured
-pub mod PairLemmas
-pub mod GatherLemmas

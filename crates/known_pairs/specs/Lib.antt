@@ -1,3 +1,0 @@
-pub mod Asking
-pub mod Gathered
-pub mod Pairs

@@ -1,2 +1,0 @@
-pub mod Lacks
-pub mod Views

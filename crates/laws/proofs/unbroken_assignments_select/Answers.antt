@@ -1,7 +1,0 @@
-use Rattle.catalogue.specs.Problems.{problem_in}
-use Rattle.laws.proofs.unbroken_assignments_select.Goals as goal
-
-pub returns : goal.returns
-returns c = λ state kept unbroken gathered.
-    c.gathered_contents_select.ensures (problem_in c.args.manifest.now c.args.catalogue.now) state kept
-    c.catalogues_are_well_formed.ensures unbroken gathered

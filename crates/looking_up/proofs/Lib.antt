@@ -1,4 +1,0 @@
-pub mod Brought
-pub mod Versions
-pub mod Pieces
-pub mod Classed

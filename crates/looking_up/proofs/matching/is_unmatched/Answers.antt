@@ -1,9 +1,0 @@
-use Rattle.std.proofs.Common.{◌∙◌, ap, not}
-use Rattle.features.specs.Views.{dependency_view}
-use Rattle.looking_up.proofs.Versions.{matched_is}
-use Rattle.looking_up.proofs.matching.is_unmatched.Goals as goal
-
-pub returns : goal.returns
-returns c =
-    ap not ((rw c.deref.ensures at c.some_matched.ensures) ∙ matched_is c.args.problem.now.catalogue.now
-    (dependency_view c.args.dependency.now) c.versions.result.now c.versions.ensures.versions)

@@ -1,0 +1,9 @@
+pub mod Brought
+pub mod Versions
+pub mod Pieces
+pub mod Classed
+pub mod Searching
+pub mod SetLaws
+pub mod Alone
+pub mod Places
+pub mod Kept

@@ -1,0 +1,9 @@
+use Rattle.std.proofs.Common.{◌≡◌, drop}
+use Rattle.refutations.specs.Instances.{first_read, led_read}
+use Rattle.lookups.specs.TermViews.{term_views}
+use Rattle.lookups.proofs.named_by_terms.first_led.Given as goal
+
+-- the first among the terms that are left is the first of all
+abbrev pub invariant-terms : goal.invariant-terms
+invariant-terms l =
+    first_read led_read (term_views (drop l.term-index l.terms)) ≡ first_read led_read (term_views l.terms)

@@ -1,0 +1,42 @@
+//! What is looked up in the manifest and in the loaded index, and the terms and causes that steps are read as.
+//!
+//! An owner is the root or a version of a package: what the one brings stands in the manifest, what the other brings in
+//! the loaded index. The versions of a class stand in one piece among those of a name, and are found by two searches,
+//! so that who asks about a class looks at these alone. Whether a requirement matches some version ends at the first
+//! that it matches.
+//!
+//! Terms whose names lie in a derivation, in the manifest or in the index are `Term` (`term.rt`), and the one cause that
+//! the terms of a step can have is read off them (`kinds.rt`).
+//!
+//! A layer above may rely on this: each look-up gives exactly what the model says (`owner_brings` and the like),
+//! borrowed from the manifest or the index, and takes no memory; an owner that is no candidate brings nothing. If terms
+//! are those of an instance of the kind at all, it is that of the cause found.
+#![tactic(auto)]
+
+mod cause;
+mod compare;
+mod feature_on_dependency;
+mod kinds;
+mod matching;
+mod named_by_terms;
+mod needed;
+mod newest_listed;
+mod numbers;
+mod owners;
+mod problem;
+mod ranges;
+mod states;
+mod term;
+mod wants_feature;
+
+pub use cause::Cause;
+pub use compare::same_terms;
+pub use feature_on_dependency::enables;
+pub use kinds::cause_in;
+pub use matching::{has_class, is_lacking, is_left, is_unmatched};
+pub use numbers::Numbers;
+pub use owners::{brings, dependencies_of, dependency_at, entries_of, is_needed};
+pub use problem::Problem;
+pub use ranges::{below, class_candidates, class_versions, of_class};
+pub use states::StateSet;
+pub use term::Term;

@@ -1,3 +1,0 @@
-pub mod Searching
-pub mod SetLaws
-pub mod Alone

@@ -1,3 +1,0 @@
-pub mod CauseViews
-pub mod Sets
-pub mod Views

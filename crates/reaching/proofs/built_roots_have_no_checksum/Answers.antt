@@ -1,6 +1,0 @@
-use Rattle.reaching.proofs.Found.{bare_root}
-use Rattle.reaching.proofs.built_roots_have_no_checksum.Goals as goal
-
-pub returns : goal.returns
-returns c = λ q owners nodes flags lists content built n p got root.
-    bare_root q owners nodes lists flags content built n p got root

@@ -1,6 +1,0 @@
-use Rattle.model.specs.Search.{LeadsTo}
-use Rattle.reaching.proofs.Found.{is_graph}
-use Rattle.reaching.proofs.packages_are_a_graph.Goals as goal
-
-pub returns : goal.returns
-returns c = λ q state owners nodes asks met. is_graph q (LeadsTo q state) owners nodes met asks

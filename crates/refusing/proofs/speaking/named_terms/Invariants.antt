@@ -1,7 +1,0 @@
-use Rattle.std.proofs.Common.{◌≡◌, take}
-use Rattle.derivations.specs.Named.{named_views}
-use Rattle.refusing.specs.Refusing.{spoken_views}
-use Rattle.refusing.proofs.speaking.named_terms.Given as goal
-
-abbrev pub invariant-terms : goal.invariant-terms
-invariant-terms l = named_views l.refs.items ≡ spoken_views (take l.term-index l.terms)

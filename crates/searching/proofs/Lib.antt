@@ -1,9 +1,0 @@
-pub mod Counts
-pub mod Weights
-pub mod Ends
-pub mod Seen
-pub mod Following
-pub mod Selections
-pub mod Each
-pub mod Falls
-pub mod Guides
