@@ -1,3 +1,4 @@
+pub mod Bounded
 pub mod Rows
 pub mod Lookups
 pub mod NameLaws

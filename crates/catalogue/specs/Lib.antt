@@ -1,3 +1,4 @@
+pub mod Bounds
 pub mod Sources
 pub mod Names
 pub mod Faults

@@ -6,8 +6,9 @@
 //! closed under dependencies, and a valid selection has no others. Contracts tell a load by the chain of the folder's
 //! calls (`Loads`), for any folder.
 //!
-//! Candidates stand oldest first, so a version or a class is found by search; how each is preferred is kept beside it
-//! as a rank, since the locked come first, and then, if that is asked for, those that the manifest's Rust version fits.
+//! Candidates stand oldest first, so a version, a class, or the ends between which a requirement can match (`bounds.rt`)
+//! are found by search. How each is preferred is kept beside it as a rank, since the locked come first, and then, if that
+//! is asked for, those that the manifest's Rust version fits.
 //!
 //! At most 65,536 names are asked for. The fault comes when one more would be, before the folder is called, so that a
 //! run which needs just as many passes. Names lie in a list with a map of `std` and not in one of `indexmap`, since
@@ -22,6 +23,7 @@
 //! and that run asks for no other names (`laws.rt`).
 #![tactic(auto)]
 
+mod bounds;
 mod candidate;
 mod candidates;
 mod checksum;
@@ -37,6 +39,7 @@ mod refusals;
 mod source;
 mod store;
 
+pub use bounds::{is_beyond, is_short};
 pub use candidate::Candidate;
 pub use checksum::Checksum;
 pub use fault::{Limit, LoadFault};
