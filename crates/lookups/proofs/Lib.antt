@@ -1,6 +1,7 @@
 pub mod Brought
 pub mod Versions
 pub mod Pieces
+pub mod Narrowed
 pub mod Classed
 pub mod Searching
 pub mod SetLaws

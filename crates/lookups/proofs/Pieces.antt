@@ -91,7 +91,7 @@ classes_rise v w h = by (is_lower (class_of w) (class_of v)) refl
 
 -- a test that older versions pass too
 module _ (t : Parts → Bool) (older : (v w : Parts) → precedence v w ≡ Less → t w ≡ true → t v ≡ true) where
-  parted : (vs : List Version) → AreRising vs → IsPartitionedBy (λ v. t (parts_of v)) vs
+  pub parted : (vs : List Version) → AreRising vs → IsPartitionedBy (λ v. t (parts_of v)) vs
   parted vs rising i j d le within h = elim (cases_lt i j) [
     | inl less ↦ older (parts_of (get_or vs i d)) (parts_of (get_or vs j d)) (rising i j d less within) h
     | inr back ↦ let e : j ≡ i = omega arith in subst (λ n. t (parts_of (get_or vs n d)) ≡ true) e h
@@ -136,7 +136,7 @@ module _ {X : Type 0} (p : X → Bool) where
       ∙ ap (λ ys. x ∷ ys) (kept xs j (omega (arith, few)) (λ k d less. low (suc k) d (omega (arith, less)))
       (λ k d more within. high (suc k) d (omega (arith, more)) (omega (arith, within))))
 
-not_false : (b : Bool) → not b ≡ false → b ≡ true
+pub not_false : (b : Bool) → not b ≡ false → b ≡ true
 not_false true e = refl
 not_false false e = sym e
 

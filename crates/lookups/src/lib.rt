@@ -2,8 +2,8 @@
 //!
 //! An owner is the root or a version of a package: what the one brings stands in the manifest, what the other brings in
 //! the loaded index. The versions of a class stand in one piece among those of a name, and are found by two searches,
-//! so that who asks about a class looks at these alone. Whether a requirement matches some version ends at the first
-//! that it matches.
+//! so that who asks about a class looks at these alone. So are the ends between which a requirement can match
+//! (`within`), and whether it matches some version is known at the first that it matches.
 //!
 //! Terms whose names lie in a derivation, in the manifest or in the index are `Term` (`term.rt`), and the one cause that
 //! the terms of a step can have is read off them (`kinds.rt`).
@@ -19,6 +19,7 @@ mod feature_on_dependency;
 mod kinds;
 mod matching;
 mod named_by_terms;
+mod narrowing;
 mod needed;
 mod newest_listed;
 mod numbers;
@@ -34,6 +35,7 @@ pub use compare::same_terms;
 pub use feature_on_dependency::enables;
 pub use kinds::cause_in;
 pub use matching::{has_class, is_lacking, is_left, is_unmatched};
+pub use narrowing::within;
 pub use numbers::Numbers;
 pub use owners::{brings, dependencies_of, dependency_at, entries_of, is_needed};
 pub use problem::Problem;

@@ -24,7 +24,6 @@ pub mod AskedLaws
 pub mod AddLaws
 pub mod Stated
 pub mod Adds
-pub mod Pinned
 pub mod Requirements
 pub mod Keeping
 pub mod Alone

@@ -15,6 +15,5 @@ pub mod OnPackage
 pub mod Asked
 pub mod Indexed
 pub mod IndexedViews
-pub mod Narrowed
 pub mod Matched
 pub mod MatchedViews

@@ -35,7 +35,6 @@ mod lists;
 mod lookups;
 mod making;
 mod matched;
-mod narrowing;
 mod on_package;
 mod pair_axioms;
 mod pair_causes;

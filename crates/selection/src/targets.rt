@@ -7,8 +7,9 @@ ghost use Rattle.model.specs.WellFormed.{IsContent};
 ghost use Rattle.features.specs.Views.{dependency_view, dependency_views};
 ghost use Rattle.lockfile.specs.Views.{package_view, package_views};
 ghost use Rattle.selection.specs.Graphs.{targets_in};
-ghost use Rattle.selection.specs.Names.{name_cmp};
+ghost use Rattle.selection.specs.Names.{is_newer, is_past, name_cmp, past_by};
 
+use catalogue::is_beyond;
 use classes::is_matched;
 use features::{Dependency, DependencyParts};
 use lockfile::Package;
@@ -37,7 +38,8 @@ pub(crate) fn targets(
 
 /// The target of a dependency: the place of the last package of the list that serves it, if one does.
 ///
-/// Those of its real name stand side by side: log of the list, and as many packages as have that name.
+/// Those of its real name stand side by side, oldest first: log of the list, and as many as are of that name and no newer
+/// than what the requirement can match, down to the last that it does.
 pub fn target(content: &[Package], list: &[usize], dependency: &DependencyParts) -> Option<usize>
     requires content { IsContent (package_views content.now) }
     requires within { All (λ t. t < length content.now) list.now }
@@ -45,8 +47,7 @@ pub fn target(content: &[Package], list: &[usize], dependency: &DependencyParts)
     ensures { result ≡ last_serving (package_views content.now) (dependency_view dependency.now) list.now }
 {
     let first = list.partition_point(|at| name_order(content, *at, dependency) == Ordering::Less);
-    let after = list.partition_point(|at| name_order(content, *at, dependency)
-        != Ordering::Greater);
+    let after = list.partition_point(|at| !is_past(content, *at, dependency));
     search(content, list, first, after, dependency)
 }
 
@@ -57,6 +58,26 @@ fn name_order(content: &[Package], at: usize, dependency: &DependencyParts) -> O
     match content.get(at) {
         Some(locked) => locked.name.cmp(&dependency.real_name),
         None => Ordering::Greater,
+    }
+}
+
+/// Whether the package at a place has a higher name than is meant, or a newer version than the requirement can match.
+fn is_past(content: &[Package], at: usize, dependency: &DependencyParts) -> bool
+    ensures { result ≡ is_past (dependency_view dependency.now) (slice_get (package_views content.now) at) }
+{
+    match content.get(at) {
+        Some(locked) => is_newer(locked, dependency),
+        None => true,
+    }
+}
+
+fn is_newer(locked: &Package, dependency: &DependencyParts) -> bool
+    ensures { result ≡ is_newer (dependency_view dependency.now) (package_view locked.now) }
+{
+    match locked.name.cmp(&dependency.real_name) {
+        Ordering::Less => false,
+        Ordering::Equal => is_beyond(&dependency.requirement, &locked.version),
+        Ordering::Greater => true,
     }
 }
 

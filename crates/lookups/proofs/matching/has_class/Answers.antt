@@ -9,6 +9,6 @@ pub returns : goal.returns
 returns c =
     let k = c.args.problem.now in
     let d = dependency_view c.args.dependency.now in
-    (rw c.deref.ensures at c.some_matched.ensures)
-    ∙ any_classed k.manifest.now k.catalogue.now d.real_name (class_view c.args.class) c.class_versions.result.now
-    c.class_versions.ensures.versions (matches_views d.requirement)
+    (rw c.deref.ensures at c.some_within.ensures)
+    ∙ any_classed k.manifest.now k.catalogue.now d.real_name (class_view c.args.class) c.class_versions-versions.result.now
+    c.class_versions-versions.ensures.versions (matches_views d.requirement)
