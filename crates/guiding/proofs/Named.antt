@@ -2,29 +2,35 @@
 -- names.
 use Rattle.std.proofs.Common.{◌≡◌, ℕ, zero, suc, ◌<◌, ◌≤◌, Bool, true, false, cond, ◌&&◌, List, [], ◌∷◌, drop, find}
 use Rattle.std.proofs.Common.{length, get_or, Some, option_map, slice_get, is_some, refl, sym, ap, ◌∙◌, subst}
-use Rattle.std.proofs.Common.{arith, inl, inr, true≢false}
+use Rattle.std.proofs.Common.{arith, inl, inr, true≢false, Ordering}
 use Rattle.std.specs.List.{AllWithin}
 use Rattle.std.specs.List.Sorted.{IsPartitionedBy}
-use Rattle.std.specs.Ordering.{is_lt}
-use Rattle.std.specs.declared.cmp.Ordering.TheVariants.{Less}
+use Rattle.std.specs.Ordering.{is_gt, is_lt, ordering_index, ordering_then}
+use Rattle.std.specs.declared.cmp.Ordering.TheVariants.{Less, Equal, Greater}
 use Rattle.std.proofs.lemmas.Bool.{cases_lt}
+use Rattle.std.proofs.lemmas.Map.Lookups.{exact_bytes}
+use Rattle.semver.specs.Identifiers.{parts_text}
+use Rattle.semver.specs.Parse.{Parts}
 use Rattle.std.proofs.lemmas.List.{length-map}
 use Rattle.std.proofs.lemmas.Option.{slice_get-get_or, slice_get-map}
 use Rattle.lockfile.specs.Views.{package_view, package_views}
 use Rattle.lockfile.specs.declared.package.Package as locked
 use Rattle.model.specs.Content.{Package, Problem}
-use Rattle.model.specs.Order.{package_cmp}
+use Rattle.model.specs.Axioms.{is_lower}
+use Rattle.model.specs.Order.{package_cmp, precedence, source_cmp, text_cmp, version_cmp}
 use Rattle.model.specs.Selection.{Class, class_of, IsValidSelection}
 use Rattle.model.specs.Summary.{same_text}
 use Rattle.model.specs.Vertices.{same_class}
 use Rattle.model.specs.WellFormed.{IsContent}
 use Rattle.model.proofs.Contents.{text-equal}
+use Rattle.model.proofs.Orders.{class_above}
 use Rattle.model.proofs.Owners.{root_parts}
 use Rattle.model.proofs.Same.{text-same}
 use Rattle.model.proofs.Tests.{below-less}
 use Rattle.selection.proofs.NameOrder.{names_rise}
 use Rattle.lockfile.specs.Search.{named_cmp}
-use Rattle.guiding.specs.Found.{is_locked, is_sourceless}
+use Rattle.lookups.proofs.Pieces as class_order
+use Rattle.guiding.specs.Found.{before_by, is_before, is_locked, is_sourceless}
 use Rattle.guiding.proofs.Owners.{sourceless_root}
 
 -- what is found is past those that fail
@@ -66,6 +72,75 @@ module _ (name : List ℕ) where
       by true false e c = refl
       by false true e c = refl
       by true true e c = absurd (true≢false (sym h ∙ ap is_lt (text-equal p.name name (sym (text-same name p.name e)))))
+
+-- ---- by name and class
+
+-- the class of a version isn't below that of one that isn't newer
+not_above : (v w : Parts) → is_gt (precedence v w) ≡ false → is_lower (class_of w) (class_of v) ≡ false
+not_above v w h = by (is_lower (class_of w) (class_of v)) refl
+  where
+    by : (b : Bool) → is_lower (class_of w) (class_of v) ≡ b → b ≡ false
+    by false e = refl
+    by true e = absurd (true≢false (sym (class_above w v e) ∙ h))
+
+no_newer : (o t s : Ordering) → ordering_then (ordering_then o t) s ≡ Less → is_gt o ≡ false
+no_newer Less t s e = refl
+no_newer Equal t s e = refl
+no_newer Greater t s e = let no : Greater ≡ Less = e in cc
+
+module _ (name : List ℕ) (k : Class) where
+  lower_of_name : (p r : Package) → named_cmp name p ≡ Equal → named_cmp name r ≡ Equal → package_cmp p r ≡ Less
+      → is_lower (class_of r.version) k ≡ true → is_lower (class_of p.version) k ≡ true
+  lower_of_name p r here there less l =
+      let one : text_cmp p.name r.name ≡ Equal =
+      text-equal p.name r.name (exact_bytes p.name name here ∙ sym (exact_bytes r.name name there)) in
+      let rest = sym (ap (λ o. ordering_then o
+      (ordering_then (version_cmp p.version r.version) (source_cmp p.source r.source))) one) ∙ less in
+      class_order.lower_first (class_of p.version) (class_of r.version) k
+      (not_above p.version r.version (no_newer (precedence p.version r.version)
+      (text_cmp (parts_text p.version) (parts_text r.version)) (source_cmp p.source r.source) rest)) l
+
+  before_rises : (p r : Package) → package_cmp p r ≡ Less → is_before name k r ≡ true → is_before name k p ≡ true
+  before_rises p r less h = by (named_cmp name p) refl (named_cmp name r) refl (names_rise name p r less) h
+    where
+      by : (a : Ordering) → named_cmp name p ≡ a → (b : Ordering) → named_cmp name r ≡ b
+          → ordering_index a ≤ ordering_index b → before_by b (is_lower (class_of r.version) k) ≡ true
+          → before_by a (is_lower (class_of p.version) k) ≡ true
+      by Less x b y le h = refl
+      by a x Greater y le h = absurd (true≢false (sym h))
+      by Equal x Equal y le h = lower_of_name p r x y less h
+      by Equal x Less y le h = absurd (omega arith)
+      by Greater x Less y le h = absurd (omega arith)
+      by Greater x Equal y le h = absurd (omega arith)
+
+  pub before_parted : (ps : List locked.Package) → IsContent (package_views ps)
+      → IsPartitionedBy (λ p. is_before name k (package_view p)) ps
+  before_parted ps formed i j d le lt h = elim (cases_lt i j) [
+    | inl less ↦
+        let before : package_cmp (package_view (get_or ps i d)) (package_view (get_or ps j d)) ≡ Less =
+        subst (λ r. package_cmp (package_view (get_or ps i d)) r ≡ Less) (view_at ps j d)
+        (subst (λ p. package_cmp p (get_or (package_views ps) j (package_view d)) ≡ Less) (view_at ps i d)
+        (formed.in_order i j (package_view d) less (omega (arith, lt, length-map ps package_view)))) in
+        before_rises (package_view (get_or ps i d)) (package_view (get_or ps j d)) before h
+    | inr ge ↦ let same : j ≡ i =
+        omega (arith, le, ge) in subst (λ n. is_before name k (package_view (get_or ps n d)) ≡ true) same h
+  ]
+
+  -- a package of a lower name or class isn't the one
+  pub before_is_other : (p : Package) → is_before name k p ≡ true → is_locked name k p ≡ false
+  before_is_other p h = by (named_cmp name p) refl h
+    where
+      at_end : (a b c : Bool) → c ≡ false → (a && b && c) ≡ false
+      at_end false b c e = refl
+      at_end true false c e = refl
+      at_end true true c e = e
+
+      by : (o : Ordering) → named_cmp name p ≡ o → before_by o (is_lower (class_of p.version) k) ≡ true
+          → is_locked name k p ≡ false
+      by Less e h = lower_is_other name k p (ap is_lt e)
+      by Equal e h = at_end (is_some p.source) (same_text name p.name) (same_class k (class_of p.version))
+          (class_order.apart_below k (class_of p.version) h)
+      by Greater e h = absurd (true≢false (sym h))
 
 -- nor is the root among those of lower names than its own
 module _ (q : Problem) (ps : List locked.Package) (valid : IsValidSelection q (package_views ps)) where

@@ -1,6 +1,10 @@
 -- What is looked for in a content, and what the number of a state is.
-use Rattle.std.specs.Prelude.{◌≡◌, ◌<◌, ℕ, List, Bool, not, ◌&&◌, Option, Some, is_some, find, length, slice_get}
+use Rattle.std.specs.Prelude.{◌≡◌, ◌<◌, ℕ, List, Bool, true, false, not, ◌&&◌, Option, Some, is_some, find, length, slice_get}
 use Rattle.std.specs.Option.{option_and_then}
+use Rattle.std.specs.declared.cmp.Ordering.{Ordering}
+use Rattle.std.specs.declared.cmp.Ordering.TheVariants.{Less, Equal, Greater}
+use Rattle.lockfile.specs.Search.{named_cmp}
+use Rattle.model.specs.Axioms.{is_lower}
 use Rattle.model.specs.Summary.{Dependency, same_text}
 use Rattle.model.specs.Content.{Package, Content, Problem, last_serving}
 use Rattle.model.specs.Selection.{Class, class_of}
@@ -16,6 +20,15 @@ is_sourceless p = not (is_some p.source)
 -- a package other than the root, of this name and class
 abbrev pub is_locked : List ℕ → Class → Package → Bool
 is_locked name k p = is_some p.source && same_text name p.name && same_class k (class_of p.version)
+
+-- a lower name, or this one at a version of a lower class
+abbrev pub before_by : Ordering → Bool → Bool
+before_by Less lower = true
+before_by Equal lower = lower
+before_by Greater lower = false
+
+abbrev pub is_before : List ℕ → Class → Package → Bool
+is_before name k p = before_by (named_cmp name p) (is_lower (class_of p.version) k)
 
 -- In a valid selection the root alone is without a source, and a version is the only one of its name and class.
 abbrev pub is_owner : Owner → Package → Bool

@@ -12,7 +12,7 @@ ghost use Rattle.model.specs.Vertices.{same_class};
 ghost use Rattle.numbering.specs.KnownProblem.{problem};
 ghost use Rattle.vertices.specs.RefViews.{owner_ref_view};
 ghost use Rattle.model.specs.WellFormed.{IsContent};
-ghost use Rattle.guiding.specs.Found.{is_locked, is_owner, is_sourceless, led_to};
+ghost use Rattle.guiding.specs.Found.{before_by, is_before, is_locked, is_owner, is_sourceless, led_to};
 
 use classes::{Class, same_class};
 use features::{DependencyParts, PackageName};
@@ -49,8 +49,8 @@ pub(crate) fn package_in<'a>(
     ensures { option_map (λ p. p.now) result
         ≡ find (λ p. is_locked name.now (class_view class) (package_view p)) content.entry.now }
 {
-    // Those of a name stand side by side.
-    let rest = &content[lower(content, name)..];
+    // Those of a name stand side by side, oldest first.
+    let rest = &content[before(content, name, class)..];
     first_locked(rest, name, class)
 }
 
@@ -66,6 +66,26 @@ fn first_locked<'a>(
     packages
         .iter()
         .find(|locked| is_locked(locked, name, class))
+}
+
+/// How many packages have a lower name, or a version of a lower class.
+fn before(content: &[Package], name: &PackageName, class: Class) -> usize
+    requires { IsContent (package_views content.now) }
+    ensures few { result ≤ length content.now }
+    ensures place { IsPartitionPoint (λ p. is_before name.now (class_view class) (package_view p) ≡ true)
+        (λ p. is_before name.now (class_view class) (package_view p) ≡ false) content.now result }
+{
+    content.partition_point(|locked| is_before(locked, name, class))
+}
+
+fn is_before(locked: &Package, name: &PackageName, class: Class) -> bool
+    ensures { result ≡ is_before name.now (class_view class) (package_view locked.now) }
+{
+    match name_order(locked, name) {
+        Ordering::Less => true,
+        Ordering::Equal => Class::of(&locked.version).is_lower(class),
+        Ordering::Greater => false,
+    }
 }
 
 /// How many packages have a lower name.

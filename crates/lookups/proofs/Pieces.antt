@@ -24,7 +24,7 @@ use Rattle.lookups.specs.Ranges.{AreRising, is_above, is_below, is_of}
 -- ---- the order of classes
 
 -- a class that isn't above another is below what that one is below, ..
-lower_first : (c d k : Class) → is_lower d c ≡ false → is_lower d k ≡ true → is_lower c k ≡ true
+pub lower_first : (c d k : Class) → is_lower d c ≡ false → is_lower d k ≡ true → is_lower c k ≡ true
 lower_first (patch a) (patch b) (patch n) h l = let x = ltb-false b a h in let y =
     ltb-true b n l in lt-ltb a n (omega arith)
 lower_first (patch a) (minor b) (patch n) h l = absurd (true≢false (sym l))

@@ -3,7 +3,7 @@ use Rattle.classes.specs.Classes.{class_view}
 use Rattle.lockfile.specs.Views.{package_view}
 use Rattle.guiding.specs.Found.{is_locked}
 use Rattle.std.proofs.lemmas.List.{take_rest}
-use Rattle.guiding.proofs.Named.{find_past, lower_is_other}
+use Rattle.guiding.proofs.Named.{before_is_other, find_past}
 use Rattle.guiding.proofs.in_content.package_in.Goals as goal
 
 pub returns : goal.returns
@@ -11,6 +11,6 @@ returns c =
     let name = c.args.name.now in
     let class = class_view c.args.class in
     let content = c.args.content.now in
-    c.first_locked.ensures ∙ ap (find (λ p. is_locked name class (package_view p))) (take_rest content c.lower.result)
-    ∙ find_past (λ p. is_locked name class (package_view p)) content c.lower.result c.lower.ensures.few
-    (λ k e l u. lower_is_other name class (package_view (get_or content k e)) (c.lower.ensures.place.0 k e l u))
+    c.first_locked.ensures ∙ ap (find (λ p. is_locked name class (package_view p))) (take_rest content c.before.result)
+    ∙ find_past (λ p. is_locked name class (package_view p)) content c.before.result c.before.ensures.few
+    (λ k e l u. before_is_other name class (package_view (get_or content k e)) (c.before.ensures.place.0 k e l u))
