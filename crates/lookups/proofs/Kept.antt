@@ -1,50 +1,53 @@
--- Numbers that were found stay those that are found, where one more is kept.
-use Rattle.std.proofs.Common.{◌≡◌, ℕ, Bool, true, false, ◌&&◌, cond, Option, Some, None, Result, Ok, Err, OnOk, OnErr}
-use Rattle.std.proofs.Common.{refl, sym, ap, ap₂, ◌∙◌}
+-- What is kept stays right, where one more is kept.
+use Rattle.std.proofs.Common.{◌≡◌, ℕ, List, Bool, true, false, cond, Some, None, Result, Ok, Err, OnOk, OnErr}
+use Rattle.std.proofs.Common.{refl, sym, ap, ◌∙◌, subst}
 use Rattle.std.specs.HashMap.{HashMap, IsEmpty, IsUnchanged, Updates, get}
 use Rattle.std.specs.Map.{lookup}
-use Rattle.model.specs.Content.{Problem}
-use Rattle.model.proofs.Same.{owner-same, text-same}
-use Rattle.refutations.specs.Instances.{needed_unmatched}
+use Rattle.std.proofs.lemmas.Option.{same_Some}
+use Rattle.model.specs.Vertices.{Owner}
+use Rattle.model.proofs.Same.{both, owner-same, text-same}
 use Rattle.vertices.specs.RefViews.{owner_ref_view}
 use Rattle.vertices.specs.declared.vertex.OwnerRef.{OwnerRef}
-use Rattle.lookups.specs.Numbers.{AreFound, Row, enabled_by, same_ref, same_row}
+use Rattle.lookups.specs.Numbers.{AreRight, IsOf, IsOfRow, Row, same_ref, same_row}
 
-module _ {K S : Type 0} (same : K → K → Bool) (found : K → Option ℕ) where
-  pub none-found : (m : HashMap K ℕ S) → IsEmpty m → AreFound same found m
-  none-found m e k n got = let no : None ≡ Some n = sym (ap (lookup (same k)) e) ∙ got in cc
+module _ {K V S : Type 0} (same : K → K → Bool) (Is : K → V → Type 0) where
+  pub none_kept : (m : HashMap K V S) → IsEmpty m → AreRight same Is m
+  none_kept m e k v got = let no : None ≡ Some v = sym (ap (lookup (same k)) e) ∙ got in cc
 
-  pub same-found : (m after : HashMap K ℕ S) → IsUnchanged m after → AreFound same found m → AreFound same found after
-  same-found m after e is k n got = is k n (sym (ap (lookup (same k)) e) ∙ got)
+  same_kept : (m after : HashMap K V S) → IsUnchanged m after → AreRight same Is m → AreRight same Is after
+  same_kept m after e are k v got = are k v (sym (ap (lookup (same k)) e) ∙ got)
 
-  pub more-found : ((k l : K) → same k l ≡ true → found k ≡ found l)
-      → (m after : HashMap K ℕ S) (k : K) (n : ℕ) → AreFound same found m → found k ≡ Some n
-      → Updates same m after k (Some n) → AreFound same found after
-  more-found alike m after k n is one u l i got = by (same k l) refl (sym (u.0 l) ∙ got)
+  module _ (alike : (k l : K) (v : V) → same k l ≡ true → Is k v → Is l v) where
+    more_kept : (m after : HashMap K V S) (k : K) (v : V) → AreRight same Is m → Is k v
+        → Updates same m after k (Some v) → AreRight same Is after
+    more_kept m after k v are one u l w got = by (same k l) refl (sym (u.0 l) ∙ got)
+      where
+        by : (b : Bool) → same k l ≡ b → cond b (Some v) (get same m l) ≡ Some w → Is l w
+        by true e f = alike k l w e (subst (Is k) (same_Some v w f) one)
+        by false e f = are l w f
+
+    -- after one is put there, or isn't for want of memory
+    kept_after : {X E : Type 0} (m after : HashMap K V S) (k : K) (v : V) (r : Result X E)
+        → OnOk r (Updates same m after k (Some v)) → OnErr r (IsUnchanged m after) → AreRight same Is m → Is k v
+        → AreRight same Is after
+    kept_after m after k v (Ok x) u e are one = more_kept m after k v are one u
+    kept_after m after k v (Err x) u e are one = same_kept m after e are
+
+module _ {V S X E : Type 0} where
+  pub put_of : (Is : Owner → V → Type 0) (m after : HashMap OwnerRef V S) (o : OwnerRef) (v : V) (r : Result X E)
+      → OnOk r (Updates same_ref m after o (Some v)) → OnErr r (IsUnchanged m after) → AreRight same_ref (IsOf Is) m
+      → Is (owner_ref_view o) v → AreRight same_ref (IsOf Is) after
+  put_of Is m after o v r u e are one = kept_after same_ref (IsOf Is)
+      (λ p q w f is. subst (λ x. Is x w) (owner-same (owner_ref_view p) (owner_ref_view q) f) is)
+      m after o v r u e are one
+
+  pub put_of_row : (Is : Owner → List ℕ → V → Type 0) (m after : HashMap Row V S) (x : Row) (v : V) (r : Result X E)
+      → OnOk r (Updates same_row m after x (Some v)) → OnErr r (IsUnchanged m after)
+      → AreRight same_row (IsOfRow Is) m → Is (owner_ref_view x.0) x.1.now v → AreRight same_row (IsOfRow Is) after
+  put_of_row Is m after x v r u e are one = kept_after same_row (IsOfRow Is) alike m after x v r u e are one
     where
-      by : (b : Bool) → same k l ≡ b → cond b (Some n) (get same m l) ≡ Some i → found l ≡ Some i
-      by true e f = sym (alike k l e) ∙ one ∙ f
-      by false e f = is l i f
-
-  -- after a number is put there, or isn't for want of memory
-  pub put-found : {X E : Type 0} → ((k l : K) → same k l ≡ true → found k ≡ found l)
-      → (m after : HashMap K ℕ S) (k : K) (n : ℕ) (r : Result X E) → OnOk r (Updates same m after k (Some n))
-      → OnErr r (IsUnchanged m after)
-      → AreFound same found m → found k ≡ Some n → AreFound same found after
-  put-found alike m after k n (Ok x) u e is one = more-found alike m after k n is one u
-  put-found alike m after k n (Err x) u e is one = same-found m after e is
-
-module _ (q : Problem) where
-  pub needed-alike : (o p : OwnerRef) → same_ref o p ≡ true
-      → needed_unmatched q (owner_ref_view o) ≡ needed_unmatched q (owner_ref_view p)
-  needed-alike o p e = ap (needed_unmatched q) (owner-same (owner_ref_view o) (owner_ref_view p) e)
-
-  both : (a b : Bool) → (a && b) ≡ true → (a ≡ true) × (b ≡ true)
-  both true b e = (refl, e)
-  both false b e = let no : false ≡ true = e in cc
-
-  pub enabled-alike : (x y : Row) → same_row x y ≡ true
-      → enabled_by q (owner_ref_view x.0) x.1.now ≡ enabled_by q (owner_ref_view y.0) y.1.now
-  enabled-alike x y e =
-      let b = both (same_ref x.0 y.0) _ e in
-      ap₂ (enabled_by q) (owner-same (owner_ref_view x.0) (owner_ref_view y.0) b.0) (text-same x.1.now y.1.now b.1)
+      alike : (y z : Row) (w : V) → same_row y z ≡ true → IsOfRow Is y w → IsOfRow Is z w
+      alike y z w f is =
+          let b = both (same_ref y.0 z.0) _ f in
+          subst (λ g. Is (owner_ref_view z.0) g w) (text-same y.1.now z.1.now b.1)
+          (subst (λ o. Is o y.1.now w) (owner-same (owner_ref_view y.0) (owner_ref_view z.0) b.0) is)

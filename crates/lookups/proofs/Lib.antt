@@ -8,3 +8,4 @@ pub mod SetLaws
 pub mod Alone
 pub mod Places
 pub mod Kept
+pub mod ByNames

@@ -1,16 +1,14 @@
 -- The first place of a list that passes, counted from a number.
 use Rattle.std.proofs.Common.{◌≡◌, ℕ, suc, ◌+◌, Bool, true, false, cond, List, [], ◌∷◌, Option, Some, None, option_map}
-use Rattle.std.proofs.Common.{refl, sym, ap, ap₂, ◌∙◌, arith}
-use Rattle.std.specs.List.{list_any}
+use Rattle.std.proofs.Common.{refl, sym, ap, ◌∙◌, arith}
 use Rattle.std.specs.Option.{option_or}
-use Rattle.semver.specs.Parse.{Parts}
 use Rattle.std.specs.Prelude.{◌&&◌}
-use Rattle.model.specs.Summary.{Dependency, Entry}
+use Rattle.model.specs.Summary.{Dependency}
 use Rattle.model.specs.Content.{Problem}
-use Rattle.model.specs.Vertices.{Owner, version_of, owner_brings}
-use Rattle.refutations.specs.Causes.{enables, is_needed, is_unmatched, entries_of}
-use Rattle.refutations.specs.Instances.{first_place, needed_unmatched, enabled_unmatched}
-use Rattle.lookups.specs.Needs.{place_from, is_needed_unmatched, is_enabled_unmatched}
+use Rattle.model.specs.Vertices.{Owner, owner_brings}
+use Rattle.refutations.specs.Causes.{is_needed, is_unmatched}
+use Rattle.refutations.specs.Instances.{first_place, needed_unmatched}
+use Rattle.lookups.specs.Needs.{place_from, is_needed_unmatched}
 
 from_is : {A : Type 0} (test : A → Bool) (n : ℕ) (xs : List A)
     → place_from test n xs ≡ option_map (λ i. n + i) (first_place test xs)
@@ -48,34 +46,10 @@ pub needed_is : (q : Problem) (o : Owner) (ds : List Dependency)
 unfolding is_needed_unmatched
 needed_is q o ds = from_start (λ d. is_needed o d && is_unmatched q d) ds
 
--- tests that agree
-place_same : {A : Type 0} (s t : A → Bool) → ((x : A) → s x ≡ t x) → (n : ℕ) (xs : List A)
-    → place_from s n xs ≡ place_from t n xs
-place_same s t e n [] = refl
-place_same s t e n (x ∷ xs) = ap₂ (λ b o. cond b (Some n) o) (e x) (place_same s t e (n + 1) xs)
-
-enabled_is : (q : Problem) (enabled : List ℕ → Bool) (es : List Entry) (ds : List Dependency)
-    → ((d : List ℕ) → enabled d ≡ list_any (enables d) es)
-    → place_from (is_enabled_unmatched q enabled) 0 ds
-    ≡ first_place (λ d. list_any (enables d.name) es && is_unmatched q d) ds
-unfolding is_enabled_unmatched
-enabled_is q enabled es ds same = place_same _ _ (λ d. ap (λ b. b && is_unmatched q d) (same d.name)) 0 ds
-    ∙ from_start (λ d. list_any (enables d.name) es && is_unmatched q d) ds
-
 -- among the dependencies of the owner
 pub needed_first : (q : Problem) (o : Owner) (ds : List Dependency) → ds ≡ (owner_brings q o).dependencies
     → place_from (is_needed_unmatched q o) 0 ds ≡ needed_unmatched q o
 needed_first q o ds e = needed_is q o ds ∙ ap (first_place (λ d. is_needed o d && is_unmatched q d)) e
-
-pub enabled_first : (q : Problem) (name : List ℕ) (v : Parts) (g : List ℕ) (enabled : List ℕ → Bool)
-    (es : List Entry) (ds : List Dependency)
-    → ((d : List ℕ) → enabled d ≡ list_any (enables d) es) → es ≡ entries_of q name v g
-    → ds ≡ (owner_brings q (version_of name v)).dependencies
-    → place_from (is_enabled_unmatched q enabled) 0 ds ≡ enabled_unmatched q name v g
-enabled_first q name v g enabled es ds same h e =
-    enabled_is q enabled es ds same
-    ∙ ap (λ xs. first_place (λ d. list_any (enables d.name) xs && is_unmatched q d) ds) h
-    ∙ ap (first_place (λ d. list_any (enables d.name) (entries_of q name v g) && is_unmatched q d)) e
 
 -- where no number is written
 pub or_found : (n m : Option ℕ) → n ≡ None → m ≡ option_or n m

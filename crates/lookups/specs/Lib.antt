@@ -5,6 +5,7 @@ pub mod CauseViews
 pub mod Sets
 pub mod TermViews
 pub mod Needs
+pub mod ByName
 pub mod Numbers
 pub mod NumbersViews
 pub mod NamedByTerms

@@ -10,10 +10,6 @@ use Rattle.refutations.specs.Causes.{Cause, of_enabling, enables, is_needed, is_
 unfoldable pub is_needed_unmatched : Problem → Owner → Dependency → Bool
 is_needed_unmatched q o d = is_needed o d && is_unmatched q d
 
--- where the test says which dependencies are enabled, by what they are called
-unfoldable pub is_enabled_unmatched : Problem → (List ℕ → Bool) → Dependency → Bool
-is_enabled_unmatched q enabled d = enabled d.name && is_unmatched q d
-
 -- the first place that passes, where the list starts at this number
 abbrev pub place_from : {A : Type 0} → (A → Bool) → ℕ → List A → Option ℕ
 place_from test n [] = None

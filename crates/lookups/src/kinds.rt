@@ -7,8 +7,9 @@
 //!
 //! What is hard is a term that isn't there. That of a dependency which no candidate serves is full and not written;
 //! then it is the first such dependency among all of the owner's (`needed.rt`), or among those that the feature's
-//! entries enable (`feature_on_dependency.rt`). A derivation can have many such steps of a few bytes each, so each is
-//! looked for once for an owner, or for a version and a feature, and remembered (`Numbers`).
+//! entries enable (`first_enabled.rt`). A derivation can have many such steps of a few bytes each, so each is looked
+//! for once for an owner, or for a version and a feature, and remembered (`Numbers`). So are the entries by which
+//! features enable dependencies (`first_enabling.rt`), since each of many steps can name another of one list.
 //!
 //! A layer above may rely on this: if terms are those of an instance of the kind at all, it is that of the cause found.
 //! Whether what the cause names is there is left to `axioms`.

@@ -16,11 +16,14 @@
 mod cause;
 mod compare;
 mod feature_on_dependency;
+mod first_enabled;
+mod first_enabling;
 mod kinds;
 mod matching;
 mod named_by_terms;
 mod narrowing;
 mod needed;
+mod new_names;
 mod newest_listed;
 mod numbers;
 mod owners;
@@ -32,7 +35,7 @@ mod wants_feature;
 
 pub use cause::Cause;
 pub use compare::same_terms;
-pub use feature_on_dependency::enables;
+pub use first_enabling::enables;
 pub use kinds::cause_in;
 pub use matching::{has_class, is_lacking, is_left, is_unmatched};
 pub use narrowing::within;

@@ -1,0 +1,193 @@
+-- What is put at names, of which the first stays, and the least of what is found there.
+use Rattle.std.proofs.Common.{◌≡◌, ℕ, suc, ◌&&◌, ◌||◌, Bool, true, false, cond, List, [], ◌∷◌, Option, Some, None, min}
+use Rattle.std.proofs.Common.{option_map, is_some, refl, sym, ap, ap₂, ◌∙◌, arith}
+use Rattle.std.specs.Borrow.{Bor}
+use Rattle.std.specs.HashMap.{Updates}
+use Rattle.std.specs.List.{list_any}
+use Rattle.std.specs.Option.{option_or}
+use Rattle.std.proofs.Math.Bool.{and-false, and-or_distrib_right, and-true}
+use Rattle.semver.specs.Parse.{Parts}
+use Rattle.features.specs.EntryViews.{entry_view}
+use Rattle.features.specs.declared.entry.Entry as code
+use Rattle.model.specs.Content.{Problem}
+use Rattle.model.specs.Summary.{Dependency, Entry, feature, dependency, dependency_feature, weak_feature, same_text}
+use Rattle.model.proofs.Same.{text-refl, text-same}
+use Rattle.model.specs.Vertices.{owner_brings, version_of}
+use Rattle.refutations.specs.Causes.{enables, entries_of, is_unmatched}
+use Rattle.refutations.specs.Instances.{enabled_unmatched, first_place}
+use Rattle.lookups.specs.ByName.{AreGone, Names, PutsEntry, PutsGone, PutsNew, entry_named, is_gone}
+use Rattle.lookups.specs.ByName.{least_enabled, lesser, named, number_enabled}
+use Rattle.lookups.proofs.Places.{from_start}
+
+-- ---- a value that is put where there was none
+
+module _ {V S : Type 0} (old : Names V S) (d : List ℕ) (v : V) where
+  named_alike : (e : List ℕ) → same_text d e ≡ true → named old d ≡ named old e
+  named_alike e f = ap (named old) (text-same d e f)
+
+  pub new_put : (x : Bor (List ℕ)) (new : Names V S) → x.now ≡ d → is_some (named old d) ≡ false
+      → Updates (λ (a b : Bor (List ℕ)). same_text a.now b.now) old new x (Some v) → PutsNew old d v new
+  new_put x new is none u e = u.0 (record { ref_ptr = x.ref_ptr; now = e })
+      ∙ ap (λ k. cond (same_text k e) (Some v) (named old e)) is ∙ by (same_text d e) refl
+    where
+      empty : (o : Option V) → is_some o ≡ false → o ≡ None
+      empty None f = refl
+      empty (Some w) f = let no : true ≡ false = f in cc
+
+      or_none : (o : Option V) → o ≡ option_or o None
+      or_none None = refl
+      or_none (Some w) = refl
+
+      by : (b : Bool) → same_text d e ≡ b
+          → cond b (Some v) (named old e) ≡ option_or (named old e) (cond b (Some v) None)
+      by true f = sym (ap (λ o. option_or o (Some v)) (sym (named_alike e f) ∙ empty (named old d) none))
+      by false f = or_none (named old e)
+
+  pub none_put : is_some (named old d) ≡ true → PutsNew old d v old
+  none_put some e = by (same_text d e) refl (named old e) refl
+    where
+      by : (b : Bool) → same_text d e ≡ b → (o : Option V) → named old e ≡ o → o ≡ option_or o (cond b (Some v) None)
+      by b f (Some w) g = refl
+      by false f None g = refl
+      by true f None g =
+          let no : false ≡ true = sym (ap is_some (named_alike e f ∙ g)) ∙ some in cc
+
+-- ---- entries
+
+flip : (d e : List ℕ) → same_text d e ≡ same_text e d
+flip d e = by (same_text d e) refl (same_text e d) refl
+  where
+    turned : (a b : List ℕ) → same_text a b ≡ true → same_text b a ≡ true
+    turned a b f = ap (λ x. same_text b x) (text-same a b f) ∙ text-refl b
+
+    by : (x : Bool) → same_text d e ≡ x → (y : Bool) → same_text e d ≡ y → x ≡ y
+    by true f true g = refl
+    by false f false g = refl
+    by true f false g = sym (turned d e f) ∙ g
+    by false f true g = sym f ∙ turned e d g
+
+-- an entry that enables what is called d
+pub entry_put : {S : Type 0} (old new : Names (Bor code.Entry) S) (d : List ℕ) (e : Bor code.Entry)
+    → PutsNew old d e new → ((x : List ℕ) → enables x (entry_view e.now) ≡ same_text x d)
+    → PutsEntry old (entry_view e.now) new
+entry_put old new d e put is x rest =
+    ap (λ o. option_or (option_map (λ f. entry_view f.now) o) rest) (put x)
+    ∙ by (named old x) (same_text d x)
+    ∙ ap (λ b. option_or (entry_named old x) (cond b (Some (entry_view e.now)) rest)) (flip d x ∙ sym (is x))
+  where
+    by : (o : Option (Bor code.Entry)) (b : Bool)
+        → option_or (option_map (λ f. entry_view f.now) (option_or o (cond b (Some e) None))) rest
+        ≡ option_or (option_map (λ f. entry_view f.now) o) (cond b (Some (entry_view e.now)) rest)
+    by (Some f) b = refl
+    by None true = refl
+    by None false = refl
+
+-- ---- numbers
+
+pub gone_put : {S : Type 0} (q : Problem) (old new : Names ℕ S) (n : ℕ) (x : Dependency) (called : List ℕ)
+    → called ≡ x.name → is_unmatched q x ≡ true → PutsNew old called n new → PutsGone q old n x new
+unfolding is_gone
+gone_put q old new n x called is un put d rest =
+    ap (λ o. option_or o rest) (put d) ∙ by (named old d) (same_text called d)
+    ∙ ap (λ c. option_or (named old d) (cond (same_text c d) (Some n) rest)) is
+    ∙ ap (λ b. option_or (named old d) (cond b (Some n) rest)) (sym (and-true (same_text x.name d))
+    ∙ ap (λ b. same_text x.name d && b) (sym un))
+  where
+    by : (o : Option ℕ) (b : Bool)
+        → option_or (option_or o (cond b (Some n) None)) rest ≡ option_or o (cond b (Some n) rest)
+    by (Some m) b = refl
+    by None true = refl
+    by None false = refl
+
+pub gone_kept : {S : Type 0} (q : Problem) (old : Names ℕ S) (n : ℕ) (x : Dependency) → is_unmatched q x ≡ false
+    → PutsGone q old n x old
+unfolding is_gone
+gone_kept q old n x un d rest =
+    ap (λ b. option_or (named old d) (cond b (Some n) rest)) (sym (and-false (same_text x.name d))
+    ∙ ap (λ b. same_text x.name d && b) (sym un))
+
+-- ---- the least number
+
+pub lesser_assoc : (a b c : Option ℕ) → lesser (lesser a b) c ≡ lesser a (lesser b c)
+lesser_assoc None b c = refl
+lesser_assoc (Some n) None c = refl
+lesser_assoc (Some n) (Some m) None = refl
+lesser_assoc (Some n) (Some m) (Some k) = ap Some (mins n m k)
+  where
+    mins : (n m k : ℕ) → min (min n m) k ≡ min n (min m k)
+    mins n m k = omega arith
+
+pub lesser_none : (o : Option ℕ) → lesser o None ≡ o
+lesser_none None = refl
+lesser_none (Some n) = refl
+
+zero_left : (o : Option ℕ) → lesser (Some 0) o ≡ Some 0
+zero_left None = refl
+zero_left (Some n) = ap Some (least n)
+  where
+    least : (n : ℕ) → min 0 n ≡ 0
+    least n = omega arith
+
+zero_right : (o : Option ℕ) → lesser (option_map suc o) (Some 0) ≡ Some 0
+zero_right None = refl
+zero_right (Some n) = ap Some (least n)
+  where
+    least : (n : ℕ) → min (suc n) 0 ≡ 0
+    least n = omega arith
+
+lesser_suc : (a b : Option ℕ) → option_map suc (lesser a b) ≡ lesser (option_map suc a) (option_map suc b)
+lesser_suc None b = refl
+lesser_suc (Some n) None = refl
+lesser_suc (Some n) (Some m) = ap Some (least n m)
+  where
+    least : (n m : ℕ) → suc (min n m) ≡ min (suc n) (suc m)
+    least n m = omega arith
+
+module _ {A : Type 0} where
+  -- the first that passes one test or another
+  first_or : (s t u : A → Bool) → ((x : A) → u x ≡ (s x || t x))
+      → (xs : List A) → first_place u xs ≡ lesser (first_place s xs) (first_place t xs)
+  first_or s t u is [] = refl
+  first_or s t u is (x ∷ xs) =
+      ap (λ b. cond b (Some 0) (option_map suc (first_place u xs))) (is x)
+      ∙ by (s x) (t x) (first_or s t u is xs)
+    where
+      by : (a b : Bool) → first_place u xs ≡ lesser (first_place s xs) (first_place t xs)
+          → cond (a || b) (Some 0) (option_map suc (first_place u xs))
+          ≡ lesser (cond a (Some 0) (option_map suc (first_place s xs)))
+          (cond b (Some 0) (option_map suc (first_place t xs)))
+      by true b e = sym (zero_left (cond b (Some 0) (option_map suc (first_place t xs))))
+      by false true e = sym (zero_right (first_place s xs))
+      by false false e = ap (option_map suc) e ∙ lesser_suc (first_place s xs) (first_place t xs)
+
+  none_first : (u : A → Bool) → ((x : A) → u x ≡ false) → (xs : List A) → first_place u xs ≡ None
+  none_first u is [] = refl
+  none_first u is (x ∷ xs) = ap₂ (λ b o. cond b (Some 0) (option_map suc o)) (is x) (none_first u is xs)
+
+  same_first : (s t : A → Bool) → ((x : A) → s x ≡ t x) → (xs : List A) → first_place s xs ≡ first_place t xs
+  same_first s t is [] = refl
+  same_first s t is (x ∷ xs) = ap₂ (λ b o. cond b (Some 0) (option_map suc o)) (is x) (same_first s t is xs)
+
+module _ {S : Type 0} (q : Problem) (ds : List Dependency) (m : Names ℕ S) (are : AreGone q ds m) where
+  one_is : (e : Entry) → number_enabled (named m) e ≡ first_place (λ d. enables d.name e && is_unmatched q d) ds
+  unfolding is_gone
+  one_is (feature g) = sym (none_first _ (λ d. refl) ds)
+  one_is (dependency d) = are d ∙ from_start (is_gone q d) ds
+  one_is (dependency_feature d g) = are d ∙ from_start (is_gone q d) ds
+  one_is (weak_feature d g) = sym (none_first _ (λ d. refl) ds)
+
+  -- the least of the numbers is the first place
+  least_is : (es : List Entry) → least_enabled (named m) es
+      ≡ first_place (λ d. list_any (enables d.name) es && is_unmatched q d) ds
+  least_is [] = sym (none_first _ (λ d. refl) ds)
+  least_is (e ∷ es) = ap₂ lesser (one_is e) (least_is es)
+      ∙ sym (first_or (λ d. enables d.name e && is_unmatched q d)
+      (λ d. list_any (enables d.name) es && is_unmatched q d)
+      (λ d. list_any (enables d.name) (e ∷ es) && is_unmatched q d)
+      (λ d. and-or_distrib_right (enables d.name e) (list_any (enables d.name) es) (is_unmatched q d)) ds)
+
+  pub enabled_is : (name : List ℕ) (v : Parts) (f : List ℕ) (es : List Entry) → es ≡ entries_of q name v f
+      → ds ≡ (owner_brings q (version_of name v)).dependencies
+      → least_enabled (named m) es ≡ enabled_unmatched q name v f
+  enabled_is name v f es e h = least_is es
+      ∙ ap₂ (λ xs ys. first_place (λ d. list_any (enables d.name) xs && is_unmatched q d) ys) e h
