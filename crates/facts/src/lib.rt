@@ -35,7 +35,7 @@ pub use flagged::{flag, flags};
 pub use node::Node;
 pub use numbering::dependencies_of;
 pub use reaching::{
-    built_contents_follow, built_contents_select, built_contents_walk,
-    built_roots_have_no_checksum, found_owners_are_kept, packages_are_a_graph,
+    built_contents_select, built_roots_have_no_checksum, found_owners_are_kept,
+    packages_are_a_graph,
 };
 pub use rule::Rule;

@@ -4,9 +4,7 @@
 //! The laws of `model` speak of an assignment of all vertices and of owners that the root reaches in it; a program has
 //! a list of packages that were met, flags of facts, and a content that was built of these. The laws here lead from the
 //! one to the other, whatever the assignment is: if it breaks no instance of an axiom, the content is a valid
-//! selection; if it has no states but those of a valid selection and absent, and the root alone brings all of that one,
-//! it is that selection. Where dependencies lead to their picks instead, it is the preferred walk. So the search and
-//! the walk go one way.
+//! selection.
 //!
 //! A law is a function that does nothing: its contract is the statement, and its body shows that the statement needs no
 //! code.
@@ -17,12 +15,10 @@ ghost use Rattle.model.specs.ContentOf.{AreKept, Kept};
 ghost use Rattle.model.specs.Search.{IsUnbroken, LeadsTo};
 ghost use Rattle.model.specs.Selection.{IsValidSelection};
 ghost use Rattle.model.specs.Vertices.{Owner, State, Vertex};
-ghost use Rattle.model.specs.Walk.{IsWalk, Picks};
 ghost use Rattle.model.specs.WellFormed.{IsCatalogue};
 ghost use Rattle.manifest.specs.Manifests.{root_asks};
 ghost use Rattle.facts.specs.Graphs.{IsGraph, NodeView};
 ghost use Rattle.facts.specs.Built.{AreFound, HasBareRoot, IsBuilt};
-ghost use Rattle.facts.specs.Followed.{AgreesWith, IsBrought};
 ghost use Rattle.facts.specs.Nodes.{AreFlags, AreMet};
 
 /// Packages with where their dependencies lead in an assignment are a graph: the facts can be found over them.
@@ -57,24 +53,4 @@ pub fn built_roots_have_no_checksum()
     ensures { (q : Problem) (owners : List Owner) (nodes : List NodeView) (is_here : List Bool)
         (are_enabled : List (List Bool)) (content : Content)
         → IsBuilt owners nodes are_enabled q is_here content → HasBareRoot q content }
-{}
-
-/// The content that is built is a valid selection that was given, if the root alone brings that one and the assignment,
-/// which breaks no instance, has no states but its own and absent.
-pub fn built_contents_follow()
-    ensures { (q : Problem) (state : Vertex → State) (owners : List Owner) (nodes : List NodeView) (is_here : List Bool)
-        (are_enabled : List (List Bool)) (content given : Content)
-        → q.root_asks ≡ root_asks q.brings.features → IsUnbroken q state → AreMet q (LeadsTo q state) owners nodes
-        → AreFlags nodes is_here are_enabled
-        → IsBuilt owners nodes are_enabled q is_here content → IsValidSelection q given → HasBareRoot q given
-        → IsBrought q given → AgreesWith q state given → content ≡ given }
-{}
-
-/// The content that is built where dependencies lead to their picks is the preferred walk.
-pub fn built_contents_walk()
-    ensures { (q : Problem) (preferred : List (List ℕ × List Candidate)) (owners : List Owner) (nodes : List NodeView)
-        (is_here : List Bool) (are_enabled : List (List Bool))
-        (content : Content) → q.root_asks ≡ root_asks q.brings.features → AreMet q (Picks q preferred) owners nodes
-        → AreFlags nodes is_here are_enabled
-        → IsBuilt owners nodes are_enabled q is_here content → IsWalk q preferred content }
 {}

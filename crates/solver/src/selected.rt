@@ -10,13 +10,11 @@
 //! selection.
 //!
 //! A layer above may rely on this: the content is a valid selection, of which the root alone brings all, and whose root
-//! has no checksum. If the states of a valid selection that the root alone brings are left at the end, it is that one.
-//! It has no more packages than the trail has places.
+//! has no checksum. It has no more packages than the trail has places.
 
 ghost use Rattle.std.specs.Prelude.{◌≡◌, ◌≤◌, IfOk, length};
 ghost use Rattle.propagation.specs.Promises.{IsSound};
 ghost use Rattle.propagation.specs.Trails.{trail_view};
-ghost use Rattle.model.specs.Content.{Content};
 ghost use Rattle.model.specs.Search.{IsUnbroken};
 ghost use Rattle.model.specs.Selection.{IsValidSelection};
 ghost use Rattle.numbering.specs.Assignments.{state_of};
@@ -24,14 +22,10 @@ ghost use Rattle.numbering.specs.KnownProblem.{problem};
 ghost use Rattle.guiding.specs.Guides.{final_of};
 ghost use Rattle.facts.specs.Built.{HasBareRoot};
 ghost use Rattle.facts.specs.Followed.{IsBrought};
-ghost use Rattle.solver.specs.Leads.{IsLeft};
 
 use crate::meeting::meet;
 use catalogue::catalogues_are_well_formed;
-use facts::{
-    built_contents_follow, built_contents_select, built_roots_have_no_checksum, facts_of,
-    packages_are_a_graph,
-};
+use facts::{built_contents_select, built_roots_have_no_checksum, facts_of, packages_are_a_graph};
 use lockfile::LockContent;
 use numbering::{KnownProblem, Table};
 use propagation::Trail;
@@ -40,8 +34,7 @@ use std::alloc::{AllocError, Global};
 use version_sets::States;
 
 /// The content that a search selected, in package order: what the root reaches in the states that it ended in, so the
-/// root alone brings all of it. Where a valid selection that it brings is left in the end, it is that one. Each of its
-/// packages has a vertex that was assigned.
+/// root alone brings all of it. Each of its packages has a vertex that was assigned.
 ///
 /// The only error is want of memory.
 pub fn content<'a, S: States + Drop>(
@@ -58,15 +51,11 @@ pub fn content<'a, S: States + Drop>(
     ensures root { IfOk result (λ c. HasBareRoot (problem known.now) c) }
     ensures brought { IfOk result (λ c. IsBrought (problem known.now) c) }
     ensures assigned { IfOk result (λ c. length c ≤ length (trail_view S.tests trail.now).steps) }
-    ensures followed { IfOk result (λ c. (w : Content) → IsValidSelection (problem known.now) w
-        → HasBareRoot (problem known.now) w → IsBrought (problem known.now) w
-        → IsLeft (problem known.now) table.now w (trail_view S.tests trail.now) → c ≡ w) }
 {
     catalogues_are_well_formed(known.manifest, known.catalogue);
     packages_are_a_graph();
     built_contents_select();
     built_roots_have_no_checksum();
-    built_contents_follow();
     let Met { versions, nodes } = meet(alloc, known, table, trail)?;
     let facts = facts_of(alloc, nodes.as_slice(), 0)?;
     content_of(

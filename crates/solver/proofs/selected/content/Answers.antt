@@ -11,7 +11,6 @@ use Rattle.selection.specs.Contents.{owners_of}
 use Rattle.solver.specs.Leads.{ends}
 use Rattle.solver.proofs.Assigned.{packages_assigned}
 use Rattle.solver.proofs.Brought.{root_brings}
-use Rattle.solver.proofs.Left.{agrees_with}
 use Rattle.solver.proofs.selected.content.Given.{Over}
 use Rattle.solver.proofs.selected.content.Goals as goal
 
@@ -64,17 +63,6 @@ returns-clause-brought g c =
     IfOk-weaker c.content_of.result _ _
     (λ x built. root_brings q st c.requires.unbroken c.catalogues_are_well_formed.ensures x
     (stands q (LeadsTo q st) _ _ c.in_ok-versions.ensures.met refl _ _ (flags_of g c) x built)) (built_of g c)
-
-pub returns-clause-followed : goal.returns-clause-followed
-returns-clause-followed g c =
-    let i = c.args.known.now in
-    let q = problem i in
-    let vs = c.args.table.now in
-    let t = trail_view g.S.States.tests c.args.trail.now in
-    IfOk-weaker c.content_of.result _ _
-    (λ x built w valid bare brought left. c.built_contents_follow.ensures q (ends i vs t) _ _ _ _ x w refl
-    c.requires.unbroken c.in_ok-versions.ensures.met (flags_of g c) built valid bare brought
-    (agrees_with q vs w t c.requires.whole valid left)) (built_of g c)
 
 pub returns-clause-assigned : goal.returns-clause-assigned
 returns-clause-assigned g c =
