@@ -9,8 +9,8 @@
 //!
 //! Nothing is stated of it: what is proved is what the calls promise, and `worked_cases` plays whole runs.
 //!
-//! What words ask for is read by clap (`reading.rt`), lines are painted as Cargo paints them (`painter.rt`), and how far
-//! a run has come is told while it asks (`watch.rt`).
+//! What words ask for is read by clap (`reading.rt`), lines are painted as Cargo paints them (`painter.rt`), and how
+//! far a run has come is told while it asks (`watch.rt`).
 #![tactic(auto)]
 
 mod asking;

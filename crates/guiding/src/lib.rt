@@ -18,8 +18,8 @@
 //! pair of such a one is begun with those that name no other (`begin_with`). The rest comes once these are propagated
 //! and the class is still left: 64 dependencies over 60 classes that lack a feature take 2 % of the time.
 //!
-//! The loop, which takes turns and ends without a budget, is `turns.rt`; it knows nothing of Cargo, and what it searches
-//! comes from a `Guide` (`guidance.rt`). What a lock says to a search that follows it is `states.rt`.
+//! The loop, which takes turns and ends without a budget, is `turns.rt`; it knows nothing of Cargo, and what it
+//! searches comes from a `Guide` (`guidance.rt`). What a lock says to a search that follows it is `states.rt`.
 //!
 //! A layer above may rely on this: the search ends where each vertex, taken `absent` if that is left, else in its one
 //! state, breaks no instance of an axiom; or with an entry without terms, from entries that are instances of their

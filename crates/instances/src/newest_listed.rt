@@ -19,7 +19,7 @@ use crate::kept::{Kept, Number};
 use crate::terms::led_term;
 use classes::{Class, is_matched};
 use features::DependencyParts;
-use lookups::{Problem, StateSet, Term, class_versions, dependency_at};
+use lookups::{Problem, StateSet, Term, class_versions, dependency_at, within};
 use semver::{Version, VersionReq};
 use std::alloc::{AllocError, Global};
 use vertices::{OwnerRef, StateRef, VertexRef};
@@ -101,8 +101,9 @@ fn taken_set<'a>(
         (matched (dependency_view dependency.entry.now))
         (dependency_view dependency.entry.now).real_name (class_view class)) }
 {
+    let requirement: &VersionReq = &dependency.requirement;
     let versions = class_versions(problem.catalogue, &dependency.real_name, class);
-    let states = taken_states(alloc, &dependency.requirement, versions)?;
+    let states = taken_states(alloc, requirement, within(requirement, versions))?;
     let number = Number::of(states.len(), versions.len());
     Ok((StateSet::rising(states), number))
 }

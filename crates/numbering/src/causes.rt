@@ -22,7 +22,7 @@ ghost use Rattle.vertices.specs.RefViews.{owner_ref_view};
 
 use crate::called::{ByName, Numbered};
 use crate::known_problem::KnownProblem;
-use crate::lookups::{brings, dependencies_of};
+use crate::owners::{brings, dependencies_of};
 use crate::possible_classes::classes_of;
 use classes::{Class, same_class};
 use features::{Dependency, DependencyParts, Entry, FeatureName, FeatureTable, PackageName};

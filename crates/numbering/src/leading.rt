@@ -20,7 +20,7 @@ use crate::asked::{Asked, Wanted};
 use crate::by_class::ByClass;
 use crate::called::Numbered;
 use crate::known_problem::KnownProblem;
-use crate::lookups::{dependencies_of, dependency_at};
+use crate::owners::{dependencies_of, dependency_at};
 use crate::possible_classes::classes_of;
 use classes::Class;
 use features::{Dependency, DependencyParts, FeatureName, PackageName};

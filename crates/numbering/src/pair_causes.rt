@@ -17,7 +17,7 @@ ghost use Rattle.vertices.specs.RefViews.{state_ref_view, vertex_ref_view};
 use crate::causes::{each_once, put_needs, put_version};
 use crate::known_problem::KnownProblem;
 use crate::leading::{Lead, put_lead, put_lead_alone};
-use crate::lookups::dependencies_of;
+use crate::owners::dependencies_of;
 use crate::possible_classes::classes_at;
 use classes::Class;
 use features::{FeatureName, PackageName};

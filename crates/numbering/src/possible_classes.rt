@@ -10,7 +10,7 @@ ghost use Rattle.numbering.specs.TestedTerms.{is_class, states_view};
 ghost use Rattle.vertices.specs.RefViews.{owner_ref_view};
 
 use crate::known_problem::KnownProblem;
-use crate::lookups::dependency_at;
+use crate::owners::dependency_at;
 use crate::space_tests::{Tests, class_tests, no_class};
 use catalogue::catalogues_are_well_formed;
 use classes::Class;

@@ -16,7 +16,7 @@ ghost use Rattle.numbering.specs.TestedTerms.{states_view, tested, tested_view, 
 ghost use Rattle.vertices.specs.RefViews.{owner_ref_view, vertex_ref_view};
 
 use crate::known_problem::KnownProblem;
-use crate::lookups::dependency_at;
+use crate::owners::dependency_at;
 use crate::possible_classes::{absent_alone, class_alone};
 use crate::space_tests::{
     Tests, chosen_tests, class_tests, lacking_tests, left_tests, no_class, taken_tests,

@@ -13,8 +13,8 @@
 //! that hold one another in a ring. Where the walk isn't valid, no clause prefers one selection to another: to say "as
 //! near the walk as can be" one has to choose what counts as near.
 //!
-//! `selected.rt` has the content of what was selected. A refutation becomes a derivation in three steps: a store's entry
-//! as a row of axioms and combinations (`unrolling.rt`), numbers as the vertices and states that they stand for
+//! `selected.rt` has the content of what was selected. A refutation becomes a derivation in three steps: a store's
+//! entry as a row of axioms and combinations (`unrolling.rt`), numbers as the vertices and states that they stand for
 //! (`rows.rt`), and texts (`refuting.rt`).
 //!
 //! A layer above may rely on this: of any manifest and any loaded index the outcome is a valid selection whose root has
