@@ -79,7 +79,7 @@ any-or p q (x ∷ xs) =
     ∙ ap (λ b. p x || b) (or-swap (q x) (list_any p xs) (list_any q xs))
     ∙ sym (or-assoc (p x) (list_any p xs) (q x || list_any q xs))
 
-any-same : {X : Type 0} (p q : X → Bool) → ((x : X) → p x ≡ q x) → (xs : List X) → list_any p xs ≡ list_any q xs
+pub any-same : {X : Type 0} (p q : X → Bool) → ((x : X) → p x ≡ q x) → (xs : List X) → list_any p xs ≡ list_any q xs
 any-same p q e [] = refl
 any-same p q e (x ∷ xs) = ap₂ (λ a b. a || b) (e x) (any-same p q e xs)
 
@@ -142,7 +142,7 @@ pub names_is : (d g : List ℕ) (row : List ℕ × List Entry) → list_any (ask
 unfolding row_names
 names_is d g row = refl
 
-none_are : (o : Option (List Entry)) → unwrap_or o [] ≡ entries_or_none o
+pub none_are : (o : Option (List Entry)) → unwrap_or o [] ≡ entries_or_none o
 none_are None = refl
 none_are (Some es) = refl
 

@@ -1,4 +1,4 @@
-pub mod WantsFeature
+pub mod EntryLemmas
 pub mod Asked
 pub mod Recorded
 pub mod Featured

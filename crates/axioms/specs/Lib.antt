@@ -1,5 +1,6 @@
 pub mod GatheredViews
-pub mod WantsFeature
+pub mod Entries
+pub mod Listed
 pub mod Asking
 pub mod Gathered
 pub mod Pairs

@@ -1,108 +1,110 @@
-//! What entries of features turn on and ask for.
+//! Entries of features whose names lie elsewhere, and sets of them.
 
-ghost use Rattle.std.specs.Prelude.{◌≡◌};
+ghost use Rattle.std.specs.Prelude.{◌≡◌, List, OnOk};
 ghost use Rattle.std.specs.List.{list_any};
-ghost use Rattle.std.specs.Prelude.{◌&&◌};
-ghost use Rattle.model.specs.Summary as model;
-ghost use Rattle.model.specs.Summary.{same_text};
 ghost use Rattle.features.specs.EntryViews.{entry_view, entry_views};
-ghost use Rattle.refutations.specs.Causes.{asks_for, same_entry};
+ghost use Rattle.model.specs.Summary as model;
+ghost use Rattle.refutations.specs.Causes.{same_entry};
+ghost use Rattle.axioms.specs.Entries.{AddsEntries, has_named, named_view, row_has};
 
-use features::{Entry, FeatureName, PackageName};
+use features::{Entry, FeatureName, FeatureTable, PackageName};
+use std::alloc::AllocError;
+use std::collections::HashSet;
 
-/// Whether an entry is `d/g` or `d?/g`.
-pub(crate) fn asks_for(name: &PackageName, feature: &FeatureName, entry: &Entry) -> bool
-    ensures { result ≡ asks_for name.now feature.now (entry_view entry.now) }
-{
-    match entry {
-        Entry::Feature(_) => false,
-        Entry::Dependency(_) => false,
-        Entry::DependencyFeature(found, asked) => is_pair(name, feature, found, asked),
-        Entry::WeakFeature(found, asked) => is_pair(name, feature, found, asked),
+/// An entry of a feature, with names that lie elsewhere.
+#[derive(Clone, Copy, PartialEq, Eq, Hash)]
+pub(crate) enum Named<'a> {
+    /// `g`
+    Feature(&'a FeatureName),
+    /// `dep:d`
+    Dependency(&'a PackageName),
+    /// `d/g`
+    Asking(&'a PackageName, &'a FeatureName),
+    /// `d?/g`
+    Weak(&'a PackageName, &'a FeatureName),
+}
+
+impl<'a> Named<'a> {
+    pub(crate) fn of(entry: &'a Entry) -> Named<'a>
+        ensures { named_view result ≡ entry_view entry.entry.now }
+    {
+        match entry {
+            Entry::Feature(feature) => Named::Feature(feature),
+            Entry::Dependency(name) => Named::Dependency(name),
+            Entry::DependencyFeature(name, feature) => Named::Asking(name, feature),
+            Entry::WeakFeature(name, feature) => Named::Weak(name, feature),
+        }
     }
 }
 
-fn is_pair(
-    name: &PackageName,
-    feature: &FeatureName,
-    other_name: &PackageName,
-    other: &FeatureName,
-) -> bool
-    ensures { result ≡ (same_text name.now other_name.now && same_text feature.now other.now) }
+/// Whether an entry is among entries.
+pub(crate) fn has_entry(named: &Named<'_>, entries: &[Entry]) -> bool
+    ensures { result ≡ list_any (same_entry (named_view named.now)) (entry_views entries.now) }
 {
-    name == other_name && feature == other
+    entries.iter().any(|entry| is_same(named, entry))
 }
 
-/// Whether an entry is `g`.
-fn is_feature(feature: &FeatureName, entry: &Entry) -> bool
-    ensures { result ≡ same_entry (model.feature feature.now) (entry_view entry.now) }
+fn is_same(named: &Named<'_>, entry: &Entry) -> bool
+    ensures { result ≡ same_entry (named_view named.now) (entry_view entry.now) }
 {
-    match entry {
-        Entry::Feature(found) => feature == found,
-        _ => false,
+    *named == Named::of(entry)
+}
+
+/// Whether an entry is in a set.
+pub(crate) fn has_named(named: &Named<'_>, set: &HashSet<Named<'_>>) -> bool
+    ensures { result ≡ has_named set.now named.now }
+{
+    set.contains(named)
+}
+
+/// Whether an entry is among those of some feature.
+pub(crate) fn some_row_has(named: &Named<'_>, table: &FeatureTable) -> bool
+    ensures { result ≡ list_any (row_has (named_view named.now) table.now) table.now }
+{
+    'rows: for (row, _) in table.iter() {
+        if row_has(named, table, row) {
+            return true;
+        }
     }
+    false
 }
 
-/// Whether an entry is `d/g`.
-fn is_asking(name: &PackageName, feature: &FeatureName, entry: &Entry) -> bool
-    ensures { result ≡ same_entry (model.dependency_feature name.now feature.now) (entry_view entry.now) }
+#[tactic(auto, unfolding(crate::specs::Entries::row_has))]
+fn row_has(named: &Named<'_>, table: &FeatureTable, row: &FeatureName) -> bool
+    ensures { (es : List model.Entry) → result ≡ row_has (named_view named.now) table.now (row.now, es) }
 {
-    match entry {
-        Entry::DependencyFeature(found, asked) => is_pair(name, feature, found, asked),
-        _ => false,
+    has_entry(named, table.entries(row))
+}
+
+/// Puts the entries of all features.
+pub(crate) fn put_rows<'a>(
+    set: &mut HashSet<Named<'a>>,
+    table: &'a FeatureTable,
+) -> Result<(), AllocError>
+    ensures { OnOk result (AddsEntries set.old set.new (λ e. list_any (row_has e table.now) table.now)) }
+{
+    'rows: for (row, _) in table.iter() {
+        put_entries(set, table.entries(row))?;
     }
+    Ok(())
 }
 
-/// Whether an entry is `d?/g`.
-fn is_weak(name: &PackageName, feature: &FeatureName, entry: &Entry) -> bool
-    ensures { result ≡ same_entry (model.weak_feature name.now feature.now) (entry_view entry.now) }
+/// Puts entries.
+pub(crate) fn put_entries<'a>(
+    set: &mut HashSet<Named<'a>>,
+    entries: &'a [Entry],
+) -> Result<(), AllocError>
+    ensures { OnOk result (AddsEntries set.old set.new (λ e. list_any (same_entry e) (entry_views entries.now))) }
 {
-    match entry {
-        Entry::WeakFeature(found, asked) => is_pair(name, feature, found, asked),
-        _ => false,
+    'entries: for entry in entries.iter() {
+        put_entry(set, entry)?;
     }
+    Ok(())
 }
 
-fn is_dependency(name: &PackageName, entry: &Entry) -> bool
-    ensures { result ≡ same_entry (model.dependency name.now) (entry_view entry.now) }
+fn put_entry<'a>(set: &mut HashSet<Named<'a>>, entry: &'a Entry) -> Result<(), AllocError>
+    ensures { OnOk result (AddsEntries set.old set.new (λ e. same_entry e (entry_view entry.now))) }
 {
-    match entry {
-        Entry::Dependency(found) => name == found,
-        _ => false,
-    }
-}
-
-fn is_same(a: &Entry, b: &Entry) -> bool
-    ensures { result ≡ same_entry (entry_view a.now) (entry_view b.now) }
-{
-    match a {
-        Entry::Feature(feature) => is_feature(feature, b),
-        Entry::Dependency(name) => is_dependency(name, b),
-        Entry::DependencyFeature(name, feature) => is_asking(name, feature, b),
-        Entry::WeakFeature(name, feature) => is_weak(name, feature, b),
-    }
-}
-
-pub(crate) fn has_feature(feature: &FeatureName, entries: &[Entry]) -> bool
-    ensures { result ≡ list_any (same_entry (model.feature feature.now)) (entry_views entries.now) }
-{
-    entries.iter().any(|entry| is_feature(feature, entry))
-}
-
-pub(crate) fn has_asking(name: &PackageName, feature: &FeatureName, entries: &[Entry]) -> bool
-    ensures { result ≡ list_any (same_entry (model.dependency_feature name.now feature.now)) (entry_views entries.now) }
-{
-    entries.iter().any(|entry| is_asking(name, feature, entry))
-}
-
-pub(crate) fn has_weak(name: &PackageName, feature: &FeatureName, entries: &[Entry]) -> bool
-    ensures { result ≡ list_any (same_entry (model.weak_feature name.now feature.now)) (entry_views entries.now) }
-{
-    entries.iter().any(|entry| is_weak(name, feature, entry))
-}
-
-pub(crate) fn has_same(entry: &Entry, entries: &[Entry]) -> bool
-    ensures { result ≡ list_any (same_entry (entry_view entry.now)) (entry_views entries.now) }
-{
-    entries.iter().any(|other| is_same(entry, other))
+    set.insert(Named::of(entry))?;
+    Ok(())
 }

@@ -6,27 +6,30 @@ ghost use Rattle.features.specs.EntryViews.{entry_view};
 ghost use Rattle.model.specs.Vertices.{version_of};
 ghost use Rattle.refutations.specs.Causes.{dependency_at, enables, is_cause, of_enabling};
 ghost use Rattle.model.specs.Optional.{passes};
+ghost use Rattle.axioms.specs.GatheredViews.{problem_of};
 ghost use Rattle.lookups.specs.Views.{problem_view};
 
-use crate::entries::has_same;
+use crate::entries::Named;
+use crate::gathered::Gathered;
+use crate::listed::row_has;
 use features::{Entry, FeatureName, PackageName};
-use lookups::{Problem, dependency_at, enables, entries_of};
+use lookups::{Problem, dependency_at, enables};
 use semver::Version;
 use vertices::OwnerRef;
 
 pub(crate) fn is_enabling(
-    problem: &Problem<'_>,
+    gathered: &Gathered<'_>,
     name: &PackageName,
     version: &Version,
     on: &FeatureName,
     entry: &Entry,
     number: usize,
 ) -> bool
-    ensures { result ≡ is_cause (problem_view problem.now)
+    ensures { result ≡ is_cause (problem_of gathered.now)
         (of_enabling name.now (parts_of version.now) on.now (entry_view entry.now) number) }
 {
-    has_same(entry, entries_of(problem, name, version, on))
-        && enables_number(problem, name, version, entry, number)
+    row_has(gathered, name, version, on, &Named::of(entry))
+        && enables_number(&gathered.problem, name, version, entry, number)
 }
 
 fn enables_number(

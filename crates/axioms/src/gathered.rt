@@ -5,18 +5,23 @@ ghost use Rattle.catalogue.specs.Problems.{problem_in};
 ghost use Rattle.axioms.specs.Gathered.{is_known_feature};
 ghost use Rattle.lookups.specs.NumbersViews as numbered;
 ghost use Rattle.instances.specs.KeptViews as known;
+ghost use Rattle.axioms.specs.Listed.{AreLists, AreOfOwners, AreOfRows};
 ghost use Rattle.axioms.specs.Pairs.{HasThose};
 ghost use Rattle.lookups.specs.Views.{problem_view};
+ghost use Rattle.refutations.specs.Causes.{same_pair};
+ghost use Rattle.std.specs.List.{list_any};
 
-use crate::gathering::known_features;
+use crate::entries::Named;
+use crate::gathering::{asked_by_root, known_features};
 use crate::pairs::Pairs;
 use catalogue::Catalogue;
 use classes::Class;
-use features::DependencyParts;
+use features::{DependencyParts, FeatureName};
 use instances::Kept;
 use lookups::{Numbers, Problem};
 use manifest::Manifest;
 use std::alloc::{AllocError, Global};
+use std::collections::{HashMap, HashSet};
 use vertices::OwnerRef;
 
 /// The manifest and the loaded index, with the features that are known of each name, and with what was found for
@@ -27,9 +32,21 @@ pub struct Gathered<'a> {
     pub(crate) features: Pairs<'a>,
     pub(crate) numbers: Numbers<'a>,
     pub(crate) kept: Kept<'a>,
+    /// What entries of the root ask for, by the names that dependencies are called by.
+    pub(crate) root_asks: Pairs<'a>,
+    /// By version and feature, the entries where they are many.
+    pub(crate) rows: HashMap<(OwnerRef<'a>, &'a FeatureName), HashSet<Named<'a>>>,
+    /// By version, the entries of all its features.
+    pub(crate) versions: HashMap<OwnerRef<'a>, HashSet<Named<'a>>>,
+    /// By owner and number, the list of a dependency where it is long, with the name of its package.
+    pub(crate) lists: HashMap<(OwnerRef<'a>, usize), Pairs<'a>>,
     ghost features_are: { HasThose features (is_known_feature (problem_view problem)) },
     ghost numbers_are: { numbered.problem_of numbers ≡ problem_view problem },
     ghost kept_are: { known.problem_of kept ≡ problem_view problem },
+    ghost root_asks_are: { HasThose root_asks (λ d g. list_any (same_pair (d, g)) (problem_view problem).root_asks) },
+    ghost rows_are: { AreOfRows (problem_view problem) rows },
+    ghost versions_are: { AreOfOwners (problem_view problem) versions },
+    ghost lists_are: { AreLists (problem_view problem) lists },
 }
 
 impl<'a> Gathered<'a> {
@@ -61,6 +78,10 @@ impl<'a> Gathered<'a> {
             features: known_features(alloc, manifest, catalogue)?,
             numbers: Numbers::new(alloc, problem),
             kept: Kept::new(alloc, problem),
+            root_asks: asked_by_root(alloc, manifest.features())?,
+            rows: HashMap::new(alloc),
+            versions: HashMap::new(alloc),
+            lists: HashMap::new(alloc),
         })
     }
 

@@ -210,7 +210,7 @@ fn put_dependency<'a>(
 }
 
 /// Puts the features of a dependency's list, and `default` where it asks for default features.
-fn put_list<'a>(
+pub(crate) fn put_list<'a>(
     known: &mut Pairs<'a>,
     name: &'a str,
     dependency: &'a DependencyParts,
@@ -240,7 +240,10 @@ fn put_features<'a>(
 }
 
 /// What entries of the root ask for, by the names that dependencies are called by.
-fn asked_by_root<'a>(alloc: Global, table: &'a FeatureTable) -> Result<Pairs<'a>, AllocError>
+pub(crate) fn asked_by_root<'a>(
+    alloc: Global,
+    table: &'a FeatureTable,
+) -> Result<Pairs<'a>, AllocError>
     ensures { IfOk result (λ p. HasThose p (λ d g. list_any (row_names d g) table.entry.now)) }
 {
     let mut asked = Pairs::new(alloc);

@@ -9,6 +9,7 @@ ghost use Rattle.lookups.specs.TermViews.{term_views};
 
 use crate::gathered::Gathered;
 use crate::kinds::is_cause;
+use crate::listed::keep_list_of;
 use instances::instance_terms;
 use lookups::{Cause, Term, cause_in, same_terms};
 use std::alloc::{AllocError, Global};
@@ -47,6 +48,7 @@ fn is_its<'a>(
     ensures same { problem_of gathered.new ≡ problem_of gathered.old }
 {
     gathered.kept.keep(alloc, cause)?;
+    keep_list_of(alloc, gathered, cause)?;
     let its = instance_terms(alloc, &mut gathered.kept, cause)?;
     Ok(is_cause(gathered, cause) && same_terms(terms, &its))
 }

@@ -9,16 +9,17 @@ ghost use Rattle.lookups.specs.Views.{problem_view};
 ghost use Rattle.lookups.specs.CauseViews.{cause_view};
 ghost use Rattle.axioms.specs.GatheredViews.{problem_of};
 
-use crate::entries::{has_asking, has_feature};
+use crate::entries::Named;
 use crate::feature_on_dependency::is_enabling;
 use crate::gathered::Gathered;
 use crate::has_feature::has_feature_vertex;
+use crate::listed::row_has;
 use crate::newest_listed::is_newest;
 use crate::wants_feature::{is_ask, is_list};
 use crate::weak_feature::is_weak;
 use classes::Class;
 use features::{FeatureName, PackageName};
-use lookups::{Cause, Problem, dependency_at, entries_of, is_needed};
+use lookups::{Cause, Problem, dependency_at, is_needed};
 use semver::Version;
 use vertices::OwnerRef;
 
@@ -38,12 +39,12 @@ pub(crate) fn is_cause(gathered: &Gathered<'_>, cause: &Cause<'_>) -> bool
         Cause::Ask(name, version, number, feature, class) => {
             is_ask(gathered, name, version, *number, feature, *class)
         }
-        Cause::Entry(name, version, on, off) => is_entry(problem, name, version, on, off),
+        Cause::Entry(name, version, on, off) => is_entry(gathered, name, version, on, off),
         Cause::Enabling(name, version, on, entry, number) => {
-            is_enabling(problem, name, version, on, entry, *number)
+            is_enabling(gathered, name, version, on, entry, *number)
         }
         Cause::Asking(name, version, on, asked, number) => {
-            is_asking(problem, name, version, on, asked, *number)
+            is_asking(gathered, name, version, on, asked, *number)
         }
         Cause::Newest(owner, number, other, class, higher) => {
             is_newest(gathered, owner, *number, *other, *class, *higher)
@@ -65,7 +66,12 @@ fn is_need(problem: &Problem<'_>, owner: &OwnerRef<'_>, number: usize) -> bool
 }
 
 /// `Target`: the requirement matches a version of the class.
-fn is_target(gathered: &Gathered<'_>, owner: &OwnerRef<'_>, number: usize, class: Class) -> bool
+pub(crate) fn is_target(
+    gathered: &Gathered<'_>,
+    owner: &OwnerRef<'_>,
+    number: usize,
+    class: Class,
+) -> bool
     ensures { result
         ≡ is_cause (problem_of gathered.now) (of_target (owner_ref_view owner.now) number (class_view class)) }
 {
@@ -77,20 +83,20 @@ fn is_target(gathered: &Gathered<'_>, owner: &OwnerRef<'_>, number: usize, class
 
 /// `FeatureOnFeature`: the other feature is an entry of the feature.
 fn is_entry(
-    problem: &Problem<'_>,
+    gathered: &Gathered<'_>,
     name: &PackageName,
     version: &Version,
     on: &FeatureName,
     off: &FeatureName,
 ) -> bool
-    ensures { result ≡ is_cause (problem_view problem.now) (of_entry name.now (parts_of version.now) on.now off.now) }
+    ensures { result ≡ is_cause (problem_of gathered.now) (of_entry name.now (parts_of version.now) on.now off.now) }
 {
-    has_feature(off, entries_of(problem, name, version, on)) && on != off
+    row_has(gathered, name, version, on, &Named::Feature(off)) && on != off
 }
 
 /// `FeatureAsks`: the feature has an entry that asks the dependency.
 fn is_asking(
-    problem: &Problem<'_>,
+    gathered: &Gathered<'_>,
     name: &PackageName,
     version: &Version,
     on: &FeatureName,
@@ -98,14 +104,13 @@ fn is_asking(
     number: usize,
 ) -> bool
     ensures { result
-        ≡ is_cause (problem_view problem.now) (of_asking name.now (parts_of version.now) on.now asked.now number) }
+        ≡ is_cause (problem_of gathered.now) (of_asking name.now (parts_of version.now) on.now asked.now number) }
 {
-    match dependency_at(problem, &OwnerRef::Version(name, version), number) {
-        Some(dependency) => has_asking(
-            &dependency.name,
-            asked,
-            entries_of(problem, name, version, on),
-        ),
+    match dependency_at(&gathered.problem, &OwnerRef::Version(name, version), number) {
+        Some(dependency) => {
+            let asking = Named::Asking(&dependency.name, asked);
+            row_has(gathered, name, version, on, &asking)
+        }
         None => false,
     }
 }

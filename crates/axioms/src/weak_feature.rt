@@ -8,11 +8,12 @@ ghost use Rattle.model.specs.Vertices.{feat, same_vertex};
 ghost use Rattle.refutations.specs.Causes.{is_cause, is_weak_on, of_weak};
 ghost use Rattle.axioms.specs.GatheredViews.{problem_of};
 
-use crate::entries::has_weak;
+use crate::entries::Named;
 use crate::gathered::Gathered;
+use crate::listed::row_has;
 use classes::{Class, same_class};
 use features::{DependencyParts, FeatureName, PackageName};
-use lookups::{dependency_at, entries_of};
+use lookups::dependency_at;
 use semver::Version;
 use vertices::OwnerRef;
 
@@ -47,12 +48,9 @@ fn is_weak_on<'a>(
     ensures { result ≡ is_weak_on (problem_of gathered.now) name.now (parts_of version.now) on.now off.now
         (class_view class) (dependency_view dependency.now) }
 {
+    let weak = Named::Weak(&dependency.name, off);
     gathered.has_class(class, dependency)
-        && has_weak(
-            &dependency.name,
-            off,
-            entries_of(&gathered.problem, name, version, on),
-        )
+        && row_has(gathered, name, version, on, &weak)
         && !is_same_feature(
             name,
             Class::of(version),

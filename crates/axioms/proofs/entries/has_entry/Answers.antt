@@ -1,16 +1,15 @@
 use Rattle.std.proofs.Common.{rules, ◌∙◌, sym}
 use Rattle.std.proofs.lemmas.Iterator.{YieldsList-from_slice}
 use Rattle.std.proofs.lemmas.Iterator.Search.{any_from_yields_List}
-use borrow.Author.Tests.{tests}
-use Rattle.model.specs.Summary.{dependency_feature}
 use Rattle.model.proofs.Mapped.{any-map}
+use borrow.Author.Tests.{tests}
 use Rattle.features.specs.EntryViews.{entry_view}
 use Rattle.features.specs.declared.entry.Entry.{Entry}
 use Rattle.refutations.specs.Causes.{same_entry}
-use Rattle.axioms.proofs.entries.has_asking.Goals as goal
+use Rattle.axioms.specs.Entries.{named_view}
+use Rattle.axioms.proofs.entries.has_entry.Goals as goal
 
 pub returns : goal.returns
-returns c = any_from_yields_List
-    (λ (e : Entry). same_entry (dependency_feature c.args.name.now c.args.feature.now) (entry_view e)) _ _ _
+returns c = any_from_yields_List (λ (e : Entry). same_entry (named_view c.args.named.now) (entry_view e)) _ _ _
     c.any.ensures.ran (YieldsList-from_slice c.args.entries.now cc) (λ x b q k. search (rules, tests))
-    ∙ sym (any-map (same_entry (dependency_feature c.args.name.now c.args.feature.now)) entry_view c.args.entries.now)
+    ∙ sym (any-map (same_entry (named_view c.args.named.now)) entry_view c.args.entries.now)
