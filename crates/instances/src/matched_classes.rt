@@ -13,7 +13,7 @@ ghost use Rattle.instances.specs.Keeping.{AreAll, all_classes};
 
 use classes::{Class, is_matched, same_class};
 use features::DependencyParts;
-use lookups::Problem;
+use lookups::{Problem, within};
 use semver::{Version, VersionReq};
 use std::alloc::{AllocError, Global};
 
@@ -26,8 +26,9 @@ pub(crate) fn matched_classes(
     ensures { IfOk result
         (λ ks. AreAll (dep_classes (problem_view problem.now) (dependency_view dependency.now)) ks.items) }
 {
+    let requirement: &VersionReq = &dependency.requirement;
     let versions = problem.catalogue.versions(&dependency.real_name);
-    classes_in(alloc, &dependency.requirement, versions)
+    classes_in(alloc, requirement, within(requirement, versions))
 }
 
 /// The classes of the versions that are matched, each once where these stand by classes.
