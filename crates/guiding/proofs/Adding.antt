@@ -40,7 +40,7 @@ use Rattle.guiding.proofs.FirstTerms.{first_only}
 use Rattle.guiding.specs.Going.{added_grown, added_on, says_on}
 use Rattle.guiding.proofs.Marks.{lengths_at, marked_either, marked_lengths, marked_more, marked_now}
 use Rattle.guiding.proofs.Marks.{wide_either, wide_has, wide_lengths}
-use Rattle.guiding.proofs.Numbers.{asked_is, asked_stays, on_trail_at, on_trail_most, late_comes, there_at}
+use Rattle.guiding.proofs.OnTrail.{asked_is, asked_stays, on_trail_at, on_trail_most, late_comes, there_at}
 use Rattle.guiding.proofs.Remaining.{open_le, open_lt}
 
 -- ---- what is given, at its places

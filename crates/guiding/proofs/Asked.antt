@@ -29,7 +29,7 @@ use Rattle.guiding.specs.Guides.{AreAll, AreFirst, EncodedView, IsAsking, IsCome
 use Rattle.guiding.specs.Guides.{marked, with_given}
 use Rattle.guiding.specs.Remaining.{spaces_of}
 use Rattle.guiding.proofs.Marks.{lengths_at, mark_lengths}
-use Rattle.guiding.proofs.Numbers.{on_trail_at}
+use Rattle.guiding.proofs.OnTrail.{on_trail_at}
 
 pub ok_by : {A E : Type 0} {P Q : Type 0} (r : Result A E) → (P → Q) → OnOk r P → OnOk r Q
 ok_by (Ok x) f h = f h

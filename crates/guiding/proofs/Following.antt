@@ -39,7 +39,7 @@ use Rattle.guiding.specs.Remaining.{spaces_of}
 use Rattle.guiding.proofs.Adding.{IsAsked, asked_spaces, given_at, given_how, with_given_is}
 use Rattle.guiding.proofs.FirstTerms.{space_starts, state_is}
 use Rattle.guiding.proofs.Marks.{lengths_at}
-use Rattle.guiding.proofs.Numbers.{on_trail_at}
+use Rattle.guiding.proofs.OnTrail.{on_trail_at}
 
 abbrev no_entry : EntryView
 no_entry = record { terms = []; origin = Axiom 0 }

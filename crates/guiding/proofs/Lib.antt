@@ -3,7 +3,7 @@ pub mod Remaining
 pub mod Arrivals
 pub mod FirstTerms
 pub mod Marks
-pub mod Numbers
+pub mod OnTrail
 pub mod Alone
 pub mod Asked
 pub mod Adding

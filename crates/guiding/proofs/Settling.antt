@@ -35,7 +35,7 @@ use Rattle.guiding.specs.Guides.{first_in, AreStored, IsDone, IsOfInstance, IsPu
 use Rattle.guiding.specs.Remaining.{spaces_of}
 use Rattle.guiding.proofs.Alone.{one_member}
 use Rattle.guiding.proofs.Marks.{lengths_at}
-use Rattle.guiding.proofs.Numbers.{on_trail_at}
+use Rattle.guiding.proofs.OnTrail.{on_trail_at}
 
 first_has : (s : Members) → 0 < size s → has s (first_in s) ≡ true
 first_has [] some = absurd (omega (arith, some))

@@ -31,7 +31,7 @@ use Rattle.guiding.specs.Guides.{asked_of, encoded_view, with_given}
 use Rattle.guiding.proofs.Adding.{given_at, given_of, of_all, said_long, with_given_is}
 use Rattle.guiding.proofs.Following.{more_unbroken, wider_agrees}
 use Rattle.guiding.proofs.Marks.{lengths_none, past_none}
-use Rattle.guiding.proofs.Numbers.{on_trail_most}
+use Rattle.guiding.proofs.OnTrail.{on_trail_most}
 
 bare_spaces : (t : TrailView) → length t.sets ≡ 0 → HasSpaces [] t
 bare_spaces t e = record { vertices = e; each = each t.sets e }

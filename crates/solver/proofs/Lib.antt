@@ -4,7 +4,7 @@ pub mod Followed
 pub mod Stepped
 pub mod Examples
 pub mod Marks
-pub mod Rows
+pub mod FlatRows
 pub mod Sets
 pub mod Decoded
 pub mod Within

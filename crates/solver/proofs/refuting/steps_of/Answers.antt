@@ -2,7 +2,7 @@ use Rattle.std.proofs.Common.{◌≡◌, ◌≤◌, ◌<◌, ◌++◌, ◌∷◌
 use Rattle.std.proofs.lemmas.List.{length-map}
 use Rattle.incompatibilities.specs.Stores.{entries_view}
 use Rattle.solver.specs.Flats.{flat_view, flats_view}
-use Rattle.solver.proofs.Rows.{flat_read}
+use Rattle.solver.proofs.FlatRows.{flat_read}
 use Rattle.model.specs.Derivation.{Step}
 use Rattle.numbering.specs.KnownProblem.{problem}
 use Rattle.solver.specs.Steps.{AreStepsOf, IsStepOf}

@@ -5,7 +5,7 @@ use Rattle.version_sets.specs.Sets.{has}
 use Rattle.incompatibilities.specs.Stores.{entries_view, entry}
 use Rattle.incompatibilities.specs.Counts.{given_in, links_in}
 use Rattle.solver.specs.Flats.{IsPut, PutIf, flats_view}
-use Rattle.solver.proofs.Rows.{chain_at, put_axiom}
+use Rattle.solver.proofs.FlatRows.{chain_at, put_axiom}
 use Rattle.solver.proofs.unrolling.put_entry.Goals as goal
 
 pub unroll_chain-requires-clause-placed : goal.unroll_chain-requires-clause-placed

@@ -5,7 +5,7 @@ use Rattle.incompatibilities.specs.Incompatibilities.{Fit, IsCombination, LiesIn
 use Rattle.incompatibilities.specs.Stores.{entries_view, entry}
 use Rattle.solver.specs.Flats.{FlatView, flat, flats_view}
 use Rattle.solver.specs.declared.flat.Source.TheVariants.{Combined}
-use Rattle.solver.proofs.Rows.{flat_read}
+use Rattle.solver.proofs.FlatRows.{flat_read}
 use Rattle.solver.proofs.unrolling.put_link.Goals as goal
 
 pub combine-requires : goal.combine-requires

@@ -3,7 +3,7 @@ use Rattle.version_sets.specs.Sets.{has}
 use Rattle.incompatibilities.specs.Stores.{entries_view}
 use Rattle.solver.specs.Flats.{PutIf, flats_view}
 use Rattle.solver.specs.Marks.{IsMarking}
-use Rattle.solver.proofs.Rows.{IsUnrolling, unrolled, unrolling_more}
+use Rattle.solver.proofs.FlatRows.{IsUnrolling, unrolled, unrolling_more}
 use Rattle.solver.proofs.unrolling.unroll.Goals as goal
 
 pub entries-preserved : goal.entries-preserved

@@ -1,6 +1,6 @@
 use Rattle.incompatibilities.specs.Stores.{entries_view}
 use Rattle.solver.specs.Flats.{flats_view}
-use Rattle.solver.proofs.Rows.{IsUnrolling}
+use Rattle.solver.proofs.FlatRows.{IsUnrolling}
 use Rattle.solver.proofs.unrolling.unroll.Given as goal
 
 abbrev pub invariant-entries : goal.invariant-entries

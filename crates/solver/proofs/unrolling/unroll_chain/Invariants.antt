@@ -1,7 +1,7 @@
 use Rattle.std.proofs.Common.{drop}
 use Rattle.incompatibilities.specs.Stores.{entries_view}
 use Rattle.solver.specs.Flats.{flats_view}
-use Rattle.solver.proofs.Rows.{IsPutting}
+use Rattle.solver.proofs.FlatRows.{IsPutting}
 use Rattle.solver.proofs.unrolling.unroll_chain.Given as goal
 
 abbrev pub invariant-links : goal.invariant-links
