@@ -50,7 +50,7 @@ pub(crate) fn package_in<'a>(
         ≡ find (λ p. is_locked name.now (class_view class) (package_view p)) content.entry.now }
 {
     // Those of a name stand side by side, oldest first.
-    let rest = &content[before(content, name, class)..];
+    let rest = &content[before_class(content, name, class)..];
     first_locked(rest, name, class)
 }
 
@@ -69,7 +69,7 @@ fn first_locked<'a>(
 }
 
 /// How many packages have a lower name, or a version of a lower class.
-fn before(content: &[Package], name: &PackageName, class: Class) -> usize
+fn before_class(content: &[Package], name: &PackageName, class: Class) -> usize
     requires { IsContent (package_views content.now) }
     ensures few { result ≤ length content.now }
     ensures place { IsPartitionPoint (λ p. is_before name.now (class_view class) (package_view p) ≡ true)

@@ -4,7 +4,7 @@ use Rattle.classes.specs.Classes.{class_view}
 use Rattle.lockfile.specs.Views.{package_view}
 use Rattle.guiding.specs.Found.{is_before}
 use Rattle.guiding.proofs.Named.{before_parted}
-use Rattle.guiding.proofs.in_content.before.Goals as goal
+use Rattle.guiding.proofs.in_content.before_class.Goals as goal
 
 pub returns-clause-place : goal.returns-clause-place
 returns-clause-place c =
