@@ -1,14 +1,15 @@
 //! What each command of `cargo relock` ends with: its status, what is told, and the lock that is to replace the old
 //! one.
 //!
-//! No command prints or writes anything here: it adds to two texts (`Said`), which are the same run's for
-//! people and for programs, and says what else is to be done (`Outcome`). So a layer above prints at the end alone,
-//! once the line that told how far the run had come is gone, and replaces the lock after that.
+//! A command prints nothing itself: it adds to two texts (`Said`), which are the same run's for people and for programs,
+//! and says what else is to be done (`Outcome`). So a layer above prints at the end alone, once the line that told how
+//! far the run had come is gone, and replaces the lock after that.
 //!
 //! To people a fault is told in a sentence, with the code of `relock` behind it (`faults.rt`); to programs both have
 //! their own keys.
 //!
-//! Where the files of a project are, what they hold and how its lock is replaced is here too (`writing.rt`).
+//! What such a layer calls for its files is here too: where they are (`paths.rt`), what they hold (`reading.rt`), what
+//! Cargo keeps of an index (`fetched.rt`), and how the lock is replaced (`writing.rt`).
 //!
 //! A layer above may rely on this: a lock is handed on only where `--write` was given and `--locked` wasn't, with the
 //! status 0 (`Outcome` of `with_new_lock`).

@@ -3,7 +3,7 @@
 //! Nothing here reads words, looks where files are or prints: a report is asked for by what was read, and by what was
 //! loaded of any folder, or by the folder itself. So a report is tested without a disk.
 //!
-//! The same is told to programs, as JSON, by `messages`.
+//! The same is told to programs, as JSON, by its module `messages`.
 //!
 //! A layer above may rely on this: what is said of why a package is there is what `changes` promises
 //! (`specs/WhyThere`), and a text `NAME` or `NAME@VERSION` asks for just the package that `specs/Asked` says.
