@@ -10,16 +10,13 @@ mod telling;
 use loading::read_input;
 use solver::solve;
 use std::io;
-use telling::{tell_axioms, tell_followed, tell_learned, tell_lock, tell_refused, tell_shared};
+use telling::{tell_axioms, tell_followed, tell_learned, tell_lock, tell_refused};
 
 /// What a problem shows.
 #[derive(Clone, Copy)]
 enum Shown {
     /// That axioms come as they are needed.
     Axioms,
-    /// That classes of a package which several dependencies of an owner share are ruled out one by one, and not beside
-    /// all classes of the others.
-    Shared,
     /// That there is a search where a walk is followed, in which no conflict comes.
     Followed,
     /// That what is learned keeps the search from trying all contents.
@@ -33,7 +30,6 @@ enum Shown {
 fn main(rt: HostRuntime) -> io::Result<()> {
     for (name, shown) in [
         ("one-dependency", Shown::Axioms),
-        ("shared-package", Shown::Shared),
         ("features", Shown::Followed),
         ("locked", Shown::Followed),
         ("two-classes", Shown::Followed),
@@ -55,7 +51,6 @@ fn tell(rt: &HostRuntime, name: &str, shown: Shown) -> io::Result<()> {
     print!(rt; "{name}: ")?;
     match shown {
         Shown::Axioms => tell_axioms(rt, &input, &solved),
-        Shown::Shared => tell_shared(rt, &input, &solved),
         Shown::Followed => tell_followed(rt, &input, &solved),
         Shown::Learned => tell_learned(rt, &solved),
         Shown::Refused => tell_refused(rt, &input, &solved),

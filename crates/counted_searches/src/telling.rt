@@ -15,12 +15,6 @@ pub(crate) fn tell_axioms(rt: &HostRuntime, input: &Input, solved: &Solved) -> i
     println!(rt; "{} of {all} axioms", solved.axioms)
 }
 
-pub(crate) fn tell_shared(rt: &HostRuntime, input: &Input, solved: &Solved) -> io::Result<()> {
-    let all = all_axioms(rt.alloc(), input)? as u64;
-    let few = solved.axioms <= all / 2;
-    println!(rt; "at most half of the axioms: {few}")
-}
-
 pub(crate) fn tell_followed(rt: &HostRuntime, input: &Input, solved: &Solved) -> io::Result<()> {
     tell_names(rt, &solved.outcome)?;
     let states = all_states(rt.alloc(), input)?;
