@@ -1,19 +1,16 @@
 //! The classes in which some version of a name is matched.
 
-ghost use Rattle.std.specs.Prelude.{◌≡◌, ◌&&◌, true, IfOk, List, OnOk};
-ghost use Rattle.std.specs.List.{list_all};
-ghost use Rattle.semver.specs.Identifiers.{parts_of};
-ghost use Rattle.classes.specs.Classes.{class_view};
+ghost use Rattle.std.specs.Prelude.{◌≡◌, ◌<◌, ◌&&◌, IfOk, List, length};
 ghost use Rattle.features.specs.Views.{dependency_view, requirement_view};
 ghost use Rattle.lookups.specs.Views.{problem_view};
-ghost use Rattle.model.specs.Vertices.{State, dep_classes, has_state, in_class};
-ghost use Rattle.model.specs.Vertices as model;
-ghost use Rattle.instances.specs.FullTerms.{has_if_matched};
+ghost use Rattle.lookups.specs.Ranges.{AreRising};
+ghost use Rattle.model.specs.Vertices.{State, dep_classes};
+ghost use Rattle.instances.specs.FullTerms.{all_if_matched};
 ghost use Rattle.instances.specs.Keeping.{AreAll, all_classes};
 
-use classes::{Class, is_matched, same_class};
+use classes::{Class, is_matched};
 use features::DependencyParts;
-use lookups::{Problem, within};
+use lookups::{Problem, above, within};
 use semver::{Version, VersionReq};
 use std::alloc::{AllocError, Global};
 
@@ -31,58 +28,45 @@ pub(crate) fn matched_classes(
     classes_in(alloc, requirement, within(requirement, versions))
 }
 
-/// The classes of the versions that are matched, each once where these stand by classes.
+/// The classes of the versions that are matched, each once. Of a class that has one of them no more are looked at.
 fn classes_in(
     alloc: Global,
     requirement: &VersionReq,
     versions: &[Version],
 ) -> Result<Vec<Class>, AllocError>
-    ensures { IfOk result (λ ks. (ss : List State) → all_classes ss ks.items
-        ≡ list_all (λ v. has_if_matched ss (requirement_view requirement.now) (parts_of v)) versions.now) }
+    requires { AreRising versions.now }
+    ensures { IfOk result (λ ks. (ss : List State)
+        → all_classes ss ks.items ≡ all_if_matched ss (requirement_view requirement.now) versions.now) }
 {
     let mut classes = Vec::new(alloc);
-    'versions: for version in versions.iter() {
-        add_matched(&mut classes, requirement, version)?;
+    let mut rest = versions;
+    'versions: while !rest.is_empty() {
+        rest = add_matched(&mut classes, requirement, rest)?;
     }
     Ok(classes)
 }
 
-/// Adds the class of the version, if it is matched.
-#[tactic(auto, unfolding(crate::specs::FullTerms::has_if_matched))]
-fn add_matched(
+/// Adds the class of the first version, if it is matched; and gives the others that are left to be looked at.
+fn add_matched<'a>(
     classes: &mut Vec<Class>,
     requirement: &VersionReq,
-    version: &Version,
-) -> Result<(), AllocError>
-    ensures { OnOk result ((ss : List State) → all_classes ss classes.new.items
+    versions: &'a [Version],
+) -> Result<&'a [Version], AllocError>
+    requires rising { AreRising versions.now }
+    requires some { 0 < length versions.now }
+    ensures rising { IfOk result (λ vs. AreRising vs.now) }
+    ensures fewer { IfOk result (λ vs. length vs.now < length versions.entry.now) }
+    ensures classes { IfOk result (λ vs. (ss : List State)
+        → (all_classes ss classes.new.items && all_if_matched ss (requirement_view requirement.now) vs.now)
         ≡ (all_classes ss classes.old.items
-        && has_if_matched ss (requirement_view requirement.now) (parts_of version.now))) }
+        && all_if_matched ss (requirement_view requirement.now) versions.entry.now)) }
 {
-    if is_matched(requirement, version) {
-        add(classes, Class::of(version))
-    } else {
-        Ok(())
+    let version = &versions[0];
+    let later = &versions[1..];
+    if !is_matched(requirement, version) {
+        return Ok(later);
     }
-}
-
-/// Adds the class, unless it is the last one.
-fn add(classes: &mut Vec<Class>, class: Class) -> Result<(), AllocError>
-    ensures { OnOk result ((ss : List State) → all_classes ss classes.new.items
-        ≡ (all_classes ss classes.old.items && has_state ss (model.in_class (class_view class)))) }
-{
-    if is_last(classes.as_slice(), class) {
-        return Ok(());
-    }
+    let class = Class::of(version);
     classes.push(class)?;
-    Ok(())
-}
-
-fn is_last(classes: &[Class], class: Class) -> bool
-    ensures { result ≡ true → (ss : List State) → all_classes ss classes.now
-        ≡ (all_classes ss classes.now && has_state ss (in_class (class_view class))) }
-{
-    match classes.last() {
-        Some(last) => same_class(&class, last),
-        None => false,
-    }
+    Ok(above(class, later))
 }

@@ -82,7 +82,7 @@ neither (major a) (major b) h l = let x = ltb-false b a h in let y = ltb-false a
 -- ---- versions that rise
 
 -- the class of a version isn't below that of an older one
-classes_rise : (v w : Parts) → precedence v w ≡ Less → is_lower (class_of w) (class_of v) ≡ false
+pub classes_rise : (v w : Parts) → precedence v w ≡ Less → is_lower (class_of w) (class_of v) ≡ false
 classes_rise v w h = by (is_lower (class_of w) (class_of v)) refl
   where
     by : (b : Bool) → is_lower (class_of w) (class_of v) ≡ b → b ≡ false
@@ -135,6 +135,23 @@ module _ {X : Type 0} (p : X → Bool) where
       ap (λ b. cond b (x ∷ filter p xs) (filter p xs)) (low 0 x (omega arith))
       ∙ ap (λ ys. x ∷ ys) (kept xs j (omega (arith, few)) (λ k d less. low (suc k) d (omega (arith, less)))
       (λ k d more within. high (suc k) d (omega (arith, more)) (omega (arith, within))))
+
+  -- where all pass from a place on, and none before it
+  all_pass : (xs : List X) → ((k : ℕ) (d : X) → k < length xs → p (get_or xs k d) ≡ true) → xs ≡ filter p xs
+  all_pass [] h = refl
+  all_pass (x ∷ xs) h =
+      ap (λ ys. x ∷ ys) (all_pass xs (λ k d within. h (suc k) d (omega (arith, within))))
+      ∙ sym (ap (λ b. cond b (x ∷ filter p xs) (filter p xs)) (h 0 x (omega arith)))
+
+  from_there : (xs : List X) (i : ℕ) → ((k : ℕ) (d : X) → k < i → k < length xs → p (get_or xs k d) ≡ false)
+      → ((k : ℕ) (d : X) → i ≤ k → k < length xs → p (get_or xs k d) ≡ true) → drop i xs ≡ filter p xs
+  from_there [] zero low high = refl
+  from_there [] (suc i) low high = refl
+  from_there (x ∷ xs) zero low high = all_pass (x ∷ xs) (λ k d within. high k d (omega arith) within)
+  from_there (x ∷ xs) (suc i) low high =
+      from_there xs i (λ k d less within. low (suc k) d (omega (arith, less)) (omega (arith, within)))
+      (λ k d more within. high (suc k) d (omega (arith, more)) (omega (arith, within)))
+      ∙ sym (ap (λ b. cond b (x ∷ filter p xs) (filter p xs)) (low 0 x (omega arith) (omega arith)))
 
 pub not_false : (b : Bool) → not b ≡ false → b ≡ true
 not_false true e = refl
@@ -189,6 +206,14 @@ pub piece_is : (k : Class) (vs : List Version) (i j : ℕ)
     (λ v. not (is_above k (parts_of v)) ≡ false) (take (length vs - i) (drop i vs)) j
     → take j (take (length vs - i) (drop i vs)) ≡ filter (λ v. is_of k (parts_of v)) vs
 piece_is k vs i j first = rw (take_rest vs i) (λ less last. between parts_of k vs vs i j refl first less last)
+
+-- and those above it are last
+pub above_is : (k : Class) (vs : List Version) (i : ℕ)
+    → IsPartitionPoint (λ v. not (is_above k (parts_of v)) ≡ true) (λ v. not (is_above k (parts_of v)) ≡ false) vs i
+    → take (length vs - i) (drop i vs) ≡ filter (λ v. is_above k (parts_of v)) vs
+above_is k vs i point = take_rest vs i ∙ from_there (λ v. is_above k (parts_of v)) vs i
+    (λ n d low within. not-true (is_above k (parts_of (get_or vs n d))) (point.0 n d (omega arith) low))
+    (λ n d high within. not_false (is_above k (parts_of (get_or vs n d))) (point.1 n d high within))
 
 -- so does what is said of their candidates, which lie beside them
 pub said_between : (k : Class) (vs : List Version) (cs : List Candidate) (rs : List Record) (i j : ℕ)

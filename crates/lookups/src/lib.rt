@@ -42,6 +42,6 @@ pub use narrowing::within;
 pub use numbers::Numbers;
 pub use owners::{brings, dependencies_of, dependency_at, entries_of, is_needed};
 pub use problem::Problem;
-pub use ranges::{below, class_candidates, class_versions, of_class};
+pub use ranges::{above, below, class_candidates, class_versions, of_class};
 pub use states::StateSet;
 pub use term::Term;

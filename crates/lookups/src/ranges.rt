@@ -52,6 +52,14 @@ pub fn of_class<'a>(class: Class, versions: &'a [Version]) -> &'a [Version]
     &rest[..up_to(class, rest)]
 }
 
+/// Those of higher classes.
+pub fn above<'a>(class: Class, versions: &'a [Version]) -> &'a [Version]
+    requires { AreRising versions.now }
+    ensures { result.now ≡ filter (λ v. is_above (class_view class) (parts_of v)) versions.entry.now }
+{
+    &versions[up_to(class, versions)..]
+}
+
 /// How many are of lower classes than this one.
 pub fn below(class: Class, versions: &[Version]) -> usize
     requires { AreRising versions.now }
