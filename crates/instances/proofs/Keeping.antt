@@ -19,8 +19,9 @@ use Rattle.model.specs.Summary.{same_text}
 use Rattle.model.specs.Vertices.{State, same_class}
 use Rattle.model.proofs.Same.{both, class-same, text-same}
 use Rattle.instances.specs.Keeping.{AreAll, AreClasses, AreKept, AreMatched, AreRight, Ask, ClassAsk, IsKept}
-use Rattle.instances.specs.Keeping.{AreHad, AreHadBy, AreLacking, AreThose, FeatureAsk, NameClass, classes_in, is_had}
-use Rattle.instances.specs.Keeping.{lacking_in, same_ask, same_class_ask, same_feature_ask, same_name_class}
+use Rattle.instances.specs.Keeping.{AreHad, AreHadBy, AreLacking, AreReleases, AreReleasesIn, AreThose, FeatureAsk}
+use Rattle.instances.specs.Keeping.{NameClass, all_releases, classes_in, is_had, lacking_in, same_ask, same_class_ask}
+use Rattle.instances.specs.Keeping.{same_feature_ask, same_name_class}
 use Rattle.instances.proofs.Requirements.{requirement-same}
 
 module _ {K V S : Type 0} (same : K → K → Bool) (Is : K → V → Type 0) where
@@ -115,3 +116,15 @@ put_had q m after x fs r u e are one = kept_after same_name_class (AreHadBy q) a
         let b = both (same_text x.0.now y.0.now) _ same in
         let k = class-same (class_view x.1) (class_view y.1) (sym (class_same x.1 y.1) ∙ b.1) in
         is f ∙ ap₂ (λ name c. is_had q name c f) (text-same x.0.now y.0.now b.0) k
+
+pub put_releases : (q : Problem) {S X E : Type 0} (m after : HashMap NameClass Bool S) (x : NameClass) (b : Bool)
+    (r : Result X E)
+    → OnOk r (Updates same_name_class m after x (Some b)) → OnErr r (IsUnchanged m after) → AreReleases q m
+    → AreReleasesIn q x b → AreReleases q after
+put_releases q m after x b r u e are one = kept_after same_name_class (AreReleasesIn q) alike m after x b r u e are one
+  where
+    alike : (x y : NameClass) (b : Bool) → same_name_class x y ≡ true → AreReleasesIn q x b → AreReleasesIn q y b
+    alike x y b same is =
+        let two = both (same_text x.0.now y.0.now) _ same in
+        let k = class-same (class_view x.1) (class_view y.1) (sym (class_same x.1 y.1) ∙ two.1) in
+        is ∙ ap₂ (all_releases q) (text-same x.0.now y.0.now two.0) k

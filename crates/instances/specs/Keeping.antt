@@ -15,6 +15,7 @@ use Rattle.classes.specs.contracts.class.ClassPartialEq.TheImpl as class_eq
 use Rattle.classes.specs.declared.class.Class as code
 use Rattle.features.specs.Texts.{HasThose}
 use Rattle.features.specs.Views.{requirement_view}
+use Rattle.lookups.specs.Matching.{is_release}
 use Rattle.model.specs.Content.{Problem, candidates_of}
 use Rattle.model.specs.Selection.{Class}
 use Rattle.model.specs.Summary.{has_feature}
@@ -118,3 +119,13 @@ AreHadBy q x fs = HasThose fs.keys (is_had q x.0.now (class_view x.1))
 
 abbrev pub AreHad : {S : Type 0} → Problem → HashMap NameClass (BTreeSet (Bor (List ℕ))) S → Type 0
 AreHad q m = AreRight same_name_class (AreHadBy q) m
+
+-- whether none of the candidates is a pre-release
+abbrev pub all_releases : Problem → List ℕ → Class → Bool
+all_releases q name k = list_all (λ c. is_release c.version) (class_candidates q name k)
+
+abbrev pub AreReleasesIn : Problem → NameClass → Bool → Type 0
+AreReleasesIn q x b = b ≡ all_releases q x.0.now (class_view x.1)
+
+abbrev pub AreReleases : {S : Type 0} → Problem → HashMap NameClass Bool S → Type 0
+AreReleases q m = AreRight same_name_class (AreReleasesIn q) m

@@ -1,11 +1,15 @@
 //! What requirements match, kept for the steps to come: many steps may ask for the same, each with few bytes.
 
-ghost use Rattle.std.specs.Prelude.{◌≡◌, IfSome};
+ghost use Rattle.std.specs.Prelude.{◌≡◌, IfOk, IfSome};
+ghost use Rattle.std.specs.List.{list_all};
+ghost use Rattle.semver.specs.Identifiers.{parts_of};
 ghost use Rattle.classes.specs.Classes.{class_view};
 ghost use Rattle.features.specs.Views.{dependency_view};
+ghost use Rattle.lookups.specs.Matching.{is_release};
 ghost use Rattle.lookups.specs.Views.{problem_view};
 ghost use Rattle.features.specs.Texts.{has_text};
-ghost use Rattle.instances.specs.Keeping.{AreHad, AreKept, AreLacking, AreMatched, left_in, some_in, taken_in};
+ghost use Rattle.instances.specs.Keeping.{AreHad, AreKept, AreLacking, AreMatched, AreReleases};
+ghost use Rattle.instances.specs.Keeping.{left_in, some_in, taken_in};
 
 use crate::features_had::features_had;
 use crate::matched_classes::matched_classes;
@@ -14,7 +18,7 @@ use features::{DependencyParts, FeatureName, PackageName};
 use lookups::{
     Cause, Problem, StateSet, class_candidates, class_versions, dependency_at, has_class,
 };
-use semver::VersionReq;
+use semver::{Version, VersionReq};
 use std::alloc::{AllocError, Global};
 use std::collections::{BTreeSet, HashMap};
 use vertices::OwnerRef;
@@ -68,12 +72,15 @@ pub struct Kept<'a> {
     pub(crate) lacking: HashMap<((&'a PackageName, &'a FeatureName), Class), StateSet<'a>>,
     /// By name and class, the features that some version has.
     pub(crate) had: HashMap<(&'a PackageName, Class), BTreeSet<&'a str>>,
+    /// By name and class, whether none of the versions is a pre-release.
+    pub(crate) releases: HashMap<(&'a PackageName, Class), bool>,
     ghost are_classes: { AreMatched (problem_view problem) classes },
     ghost are_some: { AreKept (some_in (problem_view problem)) some },
     ghost are_taken: { AreKept (taken_in (problem_view problem)) taken },
     ghost are_left: { AreKept (left_in (problem_view problem)) left },
     ghost are_lacking: { AreLacking (problem_view problem) lacking },
     ghost are_had: { AreHad (problem_view problem) had },
+    ghost are_releases: { AreReleases (problem_view problem) releases },
 }
 
 impl<'a> Kept<'a> {
@@ -81,7 +88,7 @@ impl<'a> Kept<'a> {
     ghost use Rattle.model.specs.Vertices.{dep_classes};
     ghost use Rattle.std.specs.Prelude.{not, true, false};
     ghost use Rattle.refutations.specs.Causes.{has_class};
-    ghost use Rattle.instances.specs.Keeping.{AreAll, is_had, lacking_in};
+    ghost use Rattle.instances.specs.Keeping.{AreAll, all_releases, is_had, lacking_in};
     ghost use Rattle.instances.specs.KeptViews.{problem_of};
 
     /// Nothing is kept yet.
@@ -96,6 +103,7 @@ impl<'a> Kept<'a> {
             left: HashMap::new(alloc),
             lacking: HashMap::new(alloc),
             had: HashMap::new(alloc),
+            releases: HashMap::new(alloc),
         }
     }
 
@@ -348,10 +356,45 @@ impl<'a> Kept<'a> {
         self.had.insert((name, class), had)?;
         Ok(())
     }
+
+    /// Whether none of the versions of the class is a pre-release, where they are more than a few.
+    pub(crate) fn are_releases(
+        &mut self,
+        name: &'a PackageName,
+        class: Class,
+    ) -> Result<bool, AllocError>
+        ensures releases { IfOk result
+            (λ b. b ≡ true → all_releases (problem_of self.old) name.now (class_view class) ≡ true) }
+        ensures same { problem_of self.new ≡ problem_of self.old }
+    {
+        let place = (name, class);
+        if let Some(are) = self.releases.get(&place) {
+            return Ok(*are);
+        }
+        let versions = class_versions(self.problem.catalogue, name, class);
+        if versions.len() <= FEW {
+            return Ok(false);
+        }
+        let are = are_releases(versions);
+        self.releases.insert(place, are)?;
+        Ok(are)
+    }
 }
 
 fn has_text(names: &BTreeSet<&str>, name: &str) -> bool
     ensures { result ≡ has_text names.now.keys name.now }
 {
     names.contains(name)
+}
+
+fn are_releases(versions: &[Version]) -> bool
+    ensures { result ≡ list_all (λ v. is_release (parts_of v)) versions.now }
+{
+    versions.iter().all(|version| is_release(version))
+}
+
+fn is_release(version: &Version) -> bool
+    ensures { result ≡ is_release (parts_of version.now) }
+{
+    version.pre.is_empty()
 }

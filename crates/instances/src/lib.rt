@@ -10,7 +10,9 @@
 //!
 //! Steps of few bytes may each ask what a large class has: which versions a requirement matches, or which lack a
 //! feature. So what was found of a class with more than a few versions is kept (`kept.rt`) by the name, the requirement
-//! or the feature, and the class, and only where the step itself isn't as long as the class.
+//! or the feature, and the class, and only where the step itself isn't as long as the class. And each step may have
+//! another requirement that matches all of a class: where it is kept that the class has no pre-release, only those that
+//! aren't matched are gone over.
 //!
 //! A layer above may rely on this: `instance_terms` gives exactly the terms of the definition (`terms_of_cause`),
 //! without the full ones, whether or not what the cause names is there.

@@ -1,6 +1,7 @@
 //! The terms of `Target`: a dependency leads to a class, and no version there is matched.
 
-ghost use Rattle.std.specs.Prelude.{◌≡◌, ◌∷◌, IfOk, map, not};
+ghost use Rattle.std.specs.Prelude.{◌≡◌, ◌∷◌, ◌++◌, true, IfOk, OnOk, map, not};
+ghost use Rattle.std.specs.List.{list_all};
 ghost use Rattle.semver.specs.Identifiers.{parts_of};
 ghost use Rattle.classes.specs.Classes.{class_view};
 ghost use Rattle.features.specs.Views.{dependency_view, requirement_view};
@@ -9,17 +10,16 @@ ghost use Rattle.model.specs.Vertices as model;
 ghost use Rattle.refutations.specs.Causes as causes;
 ghost use Rattle.refutations.specs.Causes.{terms_of_cause};
 ghost use Rattle.vertices.specs.RefViews.{state_ref_views, owner_ref_view};
-ghost use Rattle.lookups.specs.Ranges.{versions_with};
-ghost use Rattle.lookups.specs.Views.{problem_view};
+ghost use Rattle.lookups.specs.Ranges.{AreRising, versions_with};
 ghost use Rattle.lookups.specs.TermViews.{term_view, term_views};
-ghost use Rattle.lookups.specs.Matching.{is_left};
+ghost use Rattle.lookups.specs.Matching.{is_left, is_release};
 ghost use Rattle.instances.specs.KeptViews.{problem_of};
 
 use crate::kept::{Kept, Number};
 use crate::terms::led_term;
 use classes::Class;
 use features::DependencyParts;
-use lookups::{Problem, StateSet, Term, class_versions, dependency_at, is_left};
+use lookups::{StateSet, Term, class_versions, dependency_at, is_left, unmatched_ends};
 use semver::{Version, VersionReq};
 use std::alloc::{AllocError, Global};
 use vertices::{OwnerRef, StateRef, VertexRef};
@@ -80,7 +80,7 @@ fn left_of<'a>(
     if let Some(states) = kept.left(class, dependency) {
         return states.copy(alloc);
     }
-    let (states, number) = left_set(alloc, &kept.problem, class, dependency)?;
+    let (states, number) = left_set(alloc, kept, class, dependency)?;
     if let Number::Few = number {
         let copy = states.copy(alloc)?;
         kept.put_left(class, dependency, copy)?;
@@ -91,16 +91,19 @@ fn left_of<'a>(
 /// `absent`, and the versions of the class that aren't matched; and how many of all these are.
 fn left_set<'a>(
     alloc: Global,
-    problem: &Problem<'a>,
+    kept: &mut Kept<'a>,
     class: Class,
     dependency: &'a DependencyParts,
 ) -> Result<(StateSet<'a>, Number), AllocError>
-    ensures { IfOk result (λ s. s.0 ≡ absent_or (problem_view problem.now)
+    ensures states { IfOk result (λ s. s.0 ≡ absent_or (problem_of kept.old)
         (λ c. not (matched (dependency_view dependency.entry.now) c))
         (dependency_view dependency.entry.now).real_name (class_view class)) }
+    ensures same { problem_of kept.new ≡ problem_of kept.old }
 {
+    let problem = kept.problem;
+    let are_releases = kept.are_releases(&dependency.real_name, class)?;
     let versions = class_versions(problem.catalogue, &dependency.real_name, class);
-    let states = left_states(alloc, &dependency.requirement, versions)?;
+    let states = left_states(alloc, &dependency.requirement, versions, are_releases)?;
     let number = Number::of(states.len(), versions.len());
     Ok((StateSet::rising(states), number))
 }
@@ -110,16 +113,34 @@ fn left_states<'a>(
     alloc: Global,
     requirement: &VersionReq,
     versions: &'a [Version],
+    are_releases: bool,
 ) -> Result<Vec<StateRef<'a>>, AllocError>
+    requires rising { AreRising versions.now }
+    requires releases { are_releases ≡ true → list_all (λ v. is_release (parts_of v)) versions.now ≡ true }
     ensures { IfOk result (λ v. state_ref_views v.items ≡ model.absent
         ∷ versions_with (is_left (requirement_view requirement.now)) (map parts_of versions.entry.now)) }
 {
+    let (first, last) = unmatched_ends(requirement, versions, are_releases);
     let mut states = Vec::new(alloc);
     states.push(StateRef::Absent)?;
+    push_left(&mut states, requirement, first)?;
+    push_left(&mut states, requirement, last)?;
+    Ok(states)
+}
+
+/// Adds the versions that aren't matched.
+fn push_left<'a>(
+    states: &mut Vec<StateRef<'a>>,
+    requirement: &VersionReq,
+    versions: &'a [Version],
+) -> Result<(), AllocError>
+    ensures { OnOk result (state_ref_views states.new.items ≡ state_ref_views states.old.items
+        ++ versions_with (is_left (requirement_view requirement.now)) (map parts_of versions.entry.now)) }
+{
     'versions: for version in versions.iter() {
         if is_left(requirement, version) {
             states.push(StateRef::Version(version))?;
         }
     }
-    Ok(states)
+    Ok(())
 }

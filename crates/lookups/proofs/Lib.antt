@@ -9,3 +9,4 @@ pub mod Alone
 pub mod Places
 pub mod Kept
 pub mod ByNames
+pub mod Convex

@@ -1,5 +1,5 @@
 -- Tests of the versions of a class by a requirement and by a feature.
-use Rattle.std.specs.Prelude.{ℕ, List, Bool, not}
+use Rattle.std.specs.Prelude.{ℕ, ◌==◌, List, Bool, true, false, not, length, Option, Some, None}
 use Rattle.semver.specs.Parse.{Parts, Held}
 use Rattle.semver.specs.EvalViews.{matches_views}
 use Rattle.model.specs.Summary.{has_feature}
@@ -13,3 +13,16 @@ is_left req v = not (matches_views req v)
 -- this version of the name lacks the feature
 unfoldable pub is_lacking : Problem → List ℕ → List ℕ → Parts → Bool
 is_lacking q name f v = not (has_feature (owner_brings q (version_of name v)).features f)
+
+-- not a pre-release
+abbrev pub is_release : Parts → Bool
+is_release v = length (v.3) == 0
+
+abbrev pub is_whole_with : Option ℕ → Option ℕ → Bool
+is_whole_with (Some m) p = true
+is_whole_with None None = true
+is_whole_with None (Some p) = false
+
+-- no number is left out before one that is there
+abbrev pub is_whole : Held → Bool
+is_whole c = is_whole_with c.2 c.3

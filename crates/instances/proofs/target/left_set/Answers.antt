@@ -4,7 +4,8 @@ use Rattle.features.specs.Views.{dependency_view, requirement_view}
 use Rattle.classes.specs.Classes.{class_view}
 use Rattle.vertices.specs.Orders.{state_cmp}
 use Rattle.model.specs.Vertices.{absent}
-use Rattle.lookups.specs.Matching.{is_left}
+use Rattle.lookups.specs.Matching.{is_left, is_release}
+use Rattle.lookups.proofs.Classed.{all_classed}
 use Rattle.instances.proofs.Rising.{absent_first}
 use Rattle.instances.proofs.Matched.{left_is}
 use Rattle.instances.proofs.target.left_set.Goals as goal
@@ -15,9 +16,16 @@ rising-requires c =
     (absent_first (is_left (requirement_view c.deref.result.now))
     c.class_versions-versions.result.now c.class_versions-versions.ensures.rising)
 
-pub returns : goal.returns
-returns c =
-    let k = c.args.problem.now in
+pub left_states-requires-clause-releases : goal.left_states-requires-clause-releases
+left_states-requires-clause-releases c are =
+    let k = c.args.kept.now.problem in
+    all_classed k.manifest.now k.catalogue.now (dependency_view c.args.dependency.now).real_name
+    (class_view c.args.class) c.class_versions-versions.result.now c.class_versions-versions.ensures.versions is_release
+    ∙ c.in_ok-are_releases.ensures.releases are
+
+pub returns-clause-states : goal.returns-clause-states
+returns-clause-states c =
+    let k = c.args.kept.now.problem in
     c.rising.ensures ∙ (rw c.deref.ensures at c.in_ok-states.ensures) ∙ ap (λ ss. absent ∷ ss)
     (left_is k.manifest.now k.catalogue.now (dependency_view c.args.dependency.now)
     (class_view c.args.class) c.class_versions-versions.result.now c.class_versions-versions.ensures.versions)
