@@ -21,7 +21,7 @@ use crate::guidance::Guide;
 use crate::leads::Leads;
 use crate::opening::{next_open, unless_asked};
 use crate::order::Order;
-use crate::preferring::preferred_state;
+use crate::preferring::Preferences;
 use crate::states::state_in;
 use catalogue::catalogues_are_well_formed;
 use incompatibilities::{Id, Store};
@@ -49,6 +49,7 @@ pub struct Encoded<'a, S: States> {
     order: Order,
     /// The vertex that comes next in this order.
     next: Option<usize>,
+    preferences: Preferences,
     /// What the version that is decided next needs.
     leads: Leads,
     /// The pairs whose first instances were brought, where a dependency isn't alone on its package.
@@ -107,6 +108,7 @@ impl<'a, S: States + Drop> Encoded<'a, S> {
             seen: 0,
             order: Order::new(alloc),
             next: None,
+            preferences: Preferences::new(alloc),
             leads: Leads::new(alloc),
             begun: BTreeSet::new(alloc),
             to_begin: u64::MAX,
@@ -279,8 +281,7 @@ impl<'a, S: States + Drop> Encoded<'a, S> {
         if let Some(state) = self.followed_state(&vertex, left)? {
             return Ok(state);
         }
-        let preferred = preferred_state(self.alloc, &self.known, &vertex, left)?;
-        Ok(preferred.unwrap_or(greatest(left)))
+        Ok(self.preferences.preferred(number, left))
     }
 
     /// The vertex that comes next in the order, and the state that it is decided for.
@@ -369,6 +370,8 @@ impl<'a, S: States + Drop> Guide<S> for Encoded<'a, S> {
             None => {
                 self.order.follow(trail, self.asked.len())?;
                 self.next = self.order.next(trail, self.asked.len())?;
+                self.preferences
+                    .keep(self.alloc, &self.known, &self.table, self.next)?;
                 let lead = self.leads.next(&self.asked);
                 match self.ahead(trail, lead)? {
                     Some((vertex, state)) => {

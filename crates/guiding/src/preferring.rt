@@ -1,69 +1,135 @@
 //! Which of the states that are left to a vertex is preferred: that of the most preferred candidate.
 
-ghost use Rattle.std.specs.Prelude.{◌≡◌, IfOk, IfSome, true};
-ghost use Rattle.version_sets.specs.Sets.{has};
+ghost use Rattle.std.specs.Prelude.{◌≡◌, ◌<◌, IfSome, true};
+ghost use Rattle.version_sets.specs.Sets.{has, size};
 
+use crate::choosing::greatest;
 use classes::Class;
 use features::PackageName;
-use numbering::{KnownProblem, classes_of, dependency_at};
+use lookups::below;
+use numbering::{KnownProblem, Table, classes_of, dependency_at};
 use std::alloc::{AllocError, Global};
+use std::collections::HashMap;
 use version_sets::States;
 use vertices::{OwnerRef, VertexRef};
 
-/// The preferred state of a package or a dependency: `None` for other vertices.
-pub(crate) fn preferred_state<S: States>(
+/// Of each vertex that was to be decided, its states with the most preferred first.
+///
+/// To find them anew for each decision takes half of a search over packages that share many classes.
+#[derive(Drop)]
+pub(crate) struct Preferences {
+    states: HashMap<usize, Vec<u32>>,
+}
+
+impl Preferences {
+    /// Nothing is kept yet.
+    pub(crate) fn new(alloc: Global) -> Preferences {
+        Preferences {
+            states: HashMap::new(alloc),
+        }
+    }
+
+    /// Keeps the order of the vertex with this number, if there is one and it isn't kept.
+    pub(crate) fn keep(
+        &mut self,
+        alloc: Global,
+        known: &KnownProblem<'_>,
+        table: &Table<'_>,
+        number: Option<usize>,
+    ) -> Result<(), AllocError> {
+        let Some(number) = number else {
+            return Ok(());
+        };
+        if self.states.contains_key(&number) {
+            return Ok(());
+        }
+        let Some(vertex) = table.vertex(number) else {
+            return Ok(());
+        };
+        let states = by_preference(alloc, known, &vertex)?;
+        self.states.insert(number, states)?;
+        Ok(())
+    }
+
+    /// Of the states that are left to a vertex the most preferred one, if its order is kept, else the greatest.
+    pub(crate) fn preferred<S: States>(&self, number: usize, left: &S) -> u32
+        requires { 0 < size (S.tests left.now) }
+        ensures { has (S.tests left.now) result ≡ true }
+    {
+        match self.first_left(number, left) {
+            Some(state) => state,
+            None => greatest(left),
+        }
+    }
+
+    fn first_left<S: States>(&self, number: usize, left: &S) -> Option<u32>
+        ensures { IfSome result (λ n. has (S.tests left.now) n ≡ true) }
+    {
+        match self.states.get(&number) {
+            Some(states) => first_of(states.as_slice(), left),
+            None => None,
+        }
+    }
+}
+
+/// The first of these states that is left.
+fn first_of<S: States>(states: &[u32], left: &S) -> Option<u32>
+    ensures { IfSome result (λ n. has (S.tests left.now) n ≡ true) }
+{
+    'states: for state in states.iter() {
+        if left.member(*state) {
+            return Some(*state);
+        }
+    }
+    None
+}
+
+/// The states of a package or a dependency, the most preferred first: none of other vertices.
+fn by_preference(
     alloc: Global,
     known: &KnownProblem<'_>,
     vertex: &VertexRef<'_>,
-    left: &S,
-) -> Result<Option<u32>, AllocError>
-    ensures { IfOk result (λ o. IfSome o (λ n. has (S.tests left.now) n ≡ true)) }
-{
+) -> Result<Vec<u32>, AllocError> {
     match vertex {
-        VertexRef::Package(name, class) => preferred_version(known, name, *class, left),
+        VertexRef::Package(name, class) => versions_by_preference(alloc, known, name, *class),
         VertexRef::Dependency(owner, number) => {
-            preferred_class(alloc, known, owner, *number, left)
+            classes_by_preference(alloc, known, owner, *number)
         }
-        _ => Ok(None),
+        _ => Ok(Vec::new(alloc)),
     }
 }
 
-/// The state of the most preferred version of a class that is left.
-fn preferred_version<S: States>(
+/// The states of the versions of a class.
+fn versions_by_preference(
+    alloc: Global,
     known: &KnownProblem<'_>,
     name: &PackageName,
     class: Class,
-    left: &S,
-) -> Result<Option<u32>, AllocError>
-    ensures { IfOk result (λ o. IfSome o (λ n. has (S.tests left.now) n ≡ true)) }
-{
+) -> Result<Vec<u32>, AllocError> {
     let versions = known.catalogue.versions(name);
-    // The versions of a class stand together, and are the states after absent.
-    let first = versions.partition_point(|version| Class::of(version) < class);
+    // The versions of a class stand together, and are the states after absent; those of higher classes are no states.
+    let first = below(class, versions);
     let order = known.catalogue.prefer(name)?;
+    let mut states = Vec::new(alloc);
     'places: for place in order.iter() {
         let place = *place as usize;
         if place >= first {
-            if let Some(state) = if_left(left, place - first) {
-                return Ok(Some(state));
-            }
+            states.push(state_after(place - first))?;
         }
     }
-    Ok(None)
+    Ok(states)
 }
 
-/// The state of the class of the most preferred candidate that a dependency matches and whose class is left.
-fn preferred_class<S: States>(
+/// The states of the classes that a dependency may lead to: a class stands where its most preferred candidate does.
+fn classes_by_preference(
     alloc: Global,
     known: &KnownProblem<'_>,
     owner: &OwnerRef<'_>,
     number: usize,
-    left: &S,
-) -> Result<Option<u32>, AllocError>
-    ensures { IfOk result (λ o. IfSome o (λ n. has (S.tests left.now) n ≡ true)) }
-{
+) -> Result<Vec<u32>, AllocError> {
+    let mut states = Vec::new(alloc);
     let Some(dependency) = dependency_at(known, owner, number) else {
-        return Ok(None);
+        return Ok(states);
     };
     let classes = classes_of(alloc, known, dependency)?;
     let versions = known.catalogue.versions(&dependency.real_name);
@@ -71,33 +137,25 @@ fn preferred_class<S: States>(
     'places: for place in order.iter() {
         if let Some(version) = versions.get(*place as usize) {
             if dependency.requirement.matches(version) {
-                if let Some(state) = class_left(classes.as_slice(), Class::of(version), left) {
-                    return Ok(Some(state));
-                }
+                put_class(&mut states, classes.as_slice(), Class::of(version))?;
             }
         }
     }
-    Ok(None)
+    Ok(states)
 }
 
-/// The state of one of a dependency's classes, lowest first, if it is left.
-fn class_left<S: States>(classes: &[Class], class: Class, left: &S) -> Option<u32>
-    ensures { IfSome result (λ n. has (S.tests left.now) n ≡ true) }
-{
-    match classes.binary_search(&class) {
-        Ok(place) => if_left(left, place),
-        Err(_) => None,
+/// Puts the state of one of a dependency's classes, lowest first, unless it is the last that was put.
+fn put_class(states: &mut Vec<u32>, classes: &[Class], class: Class) -> Result<(), AllocError> {
+    if let Ok(place) = classes.binary_search(&class) {
+        let state = state_after(place);
+        if states.last() != Some(&state) {
+            states.push(state)?;
+        }
     }
+    Ok(())
 }
 
-/// The state at a place after absent, if it is left.
-fn if_left<S: States>(left: &S, place: usize) -> Option<u32>
-    ensures { IfSome result (λ n. has (S.tests left.now) n ≡ true) }
-{
-    let state = u32::try_from(place).unwrap_or(u32::MAX).saturating_add(1);
-    if left.member(state) {
-        Some(state)
-    } else {
-        None
-    }
+/// The state at a place after absent.
+fn state_after(place: usize) -> u32 {
+    u32::try_from(place).unwrap_or(u32::MAX).saturating_add(1)
 }
