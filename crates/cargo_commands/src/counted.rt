@@ -9,14 +9,14 @@ use std::time::Clock;
 
 /// A folder that counts what it is asked for and what is read of it, and tells that to who watches.
 #[derive(Drop)]
-pub struct Counted<'a, F: Folder + Drop, R: Clock + Eprint> {
+pub(crate) struct Counted<'a, F: Folder + Drop, R: Clock + Eprint> {
     folder: F,
     seen: Seen,
     teller: Teller<'a, R>,
 }
 
 impl<'a, F: Folder + Drop, R: Clock + Eprint> Counted<'a, F, R> {
-    pub fn new(folder: F, rt: &'a R, watch: Watch) -> Counted<'a, F, R> {
+    pub(crate) fn new(folder: F, rt: &'a R, watch: Watch) -> Counted<'a, F, R> {
         Counted {
             folder,
             seen: Seen::nothing(),
@@ -25,12 +25,12 @@ impl<'a, F: Folder + Drop, R: Clock + Eprint> Counted<'a, F, R> {
     }
 
     /// What was asked for and read until now.
-    pub fn seen(&self) -> Seen {
+    pub(crate) fn seen(&self) -> Seen {
         self.seen
     }
 
     /// The folder itself.
-    pub fn folder(&self) -> &F {
+    pub(crate) fn folder(&self) -> &F {
         &self.folder
     }
 }

@@ -30,12 +30,5 @@ mod shown;
 mod teller;
 mod watch;
 
-pub use counted::Counted;
-pub use manner::{Color, Manner, MessageFormat, color_in};
-pub use painter::{Painter, Show};
-pub use reading::{Asked, CargoWords, Changing, Places, own_words, read_words};
 pub use running::{run, without_arguments};
-pub use seen::Seen;
 pub use showing::Surroundings;
-pub use watch::Watch;
-pub use words::WordsFault;

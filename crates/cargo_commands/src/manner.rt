@@ -6,8 +6,8 @@ use clap::{Arg, ArgMatches, Command};
 use std::alloc::{AllocError, Global};
 
 /// When colors are shown.
-#[derive(Clone, Copy, Debug, PartialEq, Eq)]
-pub enum Color {
+#[derive(Clone, Copy)]
+pub(crate) enum Color {
     /// Where a terminal shows what is told.
     Auto,
     Always,
@@ -15,15 +15,15 @@ pub enum Color {
 }
 
 /// For whom the answer is.
-#[derive(Clone, Copy, Debug, PartialEq, Eq)]
-pub enum MessageFormat {
+#[derive(Clone, Copy, PartialEq, Eq)]
+pub(crate) enum MessageFormat {
     Human,
     Json,
 }
 
 /// How a command tells what it finds.
-#[derive(Clone, Copy, Debug)]
-pub struct Manner {
+#[derive(Clone, Copy)]
+pub(crate) struct Manner {
     /// When colors are shown, if the words say it.
     pub color: Option<Color>,
     /// Whether errors alone are told.
@@ -101,7 +101,7 @@ fn format_of(found: &ArgMatches<'_>) -> MessageFormat {
 }
 
 /// When colors are shown by one of Cargo's words.
-pub fn color_in(word: &str) -> Option<Color> {
+pub(crate) fn color_in(word: &str) -> Option<Color> {
     match word {
         "auto" => Some(Color::Auto),
         "always" => Some(Color::Always),

@@ -5,7 +5,7 @@ use std::alloc::AllocError;
 use std::str::from_utf8;
 
 /// How a part of a line is shown: bold, and in a color, as in Cargo 1.95.
-#[derive(Clone, Copy, Debug, PartialEq, Eq)]
+#[derive(Clone, Copy)]
 pub(crate) enum Style {
     Bold,
     Green,

@@ -17,8 +17,8 @@ use std::alloc::{AllocError, Global};
 use std::io::{self, Write};
 
 /// What becomes of what goes through a painter.
-#[derive(Clone, Copy, Debug, PartialEq, Eq)]
-pub enum Show {
+#[derive(Clone, Copy, PartialEq, Eq)]
+pub(crate) enum Show {
     Plain,
     InColors,
     /// Lines of JSON, which stay JSON.
@@ -29,7 +29,7 @@ pub enum Show {
 /// A writer that hands on what it gets as it is, or painted line by line, or not at all; but control characters are told
 /// by their numbers.
 #[derive(Drop)]
-pub struct Painter<W: Write + Drop> {
+pub(crate) struct Painter<W: Write + Drop> {
     to: W,
     alloc: Global,
     show: Show,
@@ -38,7 +38,7 @@ pub struct Painter<W: Write + Drop> {
 }
 
 impl<W: Write + Drop> Painter<W> {
-    pub fn new(alloc: Global, to: W, show: Show) -> Painter<W> {
+    pub(crate) fn new(alloc: Global, to: W, show: Show) -> Painter<W> {
         Painter {
             to,
             alloc,

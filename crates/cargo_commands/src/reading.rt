@@ -13,8 +13,8 @@ use std::alloc::{AllocError, Global};
 use words::{WordsFault, fault_of};
 
 /// Where the files of a command are.
-#[derive(Clone, Copy, Debug)]
-pub struct Places<'a> {
+#[derive(Clone, Copy)]
+pub(crate) struct Places<'a> {
     pub manifest: Option<&'a str>,
     pub lock: Option<&'a str>,
     pub index: Option<&'a str>,
@@ -23,8 +23,8 @@ pub struct Places<'a> {
 }
 
 /// What the commands are to do that may change the lock.
-#[derive(Clone, Copy, Debug)]
-pub struct Changing {
+#[derive(Clone, Copy)]
+pub(crate) struct Changing {
     pub locked: bool,
     /// Without `--dry-run`.
     pub write: bool,
@@ -34,8 +34,8 @@ pub struct Changing {
 }
 
 /// A command, with what its options say.
-#[derive(Debug, Drop)]
-pub enum CargoWords<'a> {
+#[derive(Drop)]
+pub(crate) enum CargoWords<'a> {
     Resolve {
         places: Places<'a>,
         changing: Changing,
@@ -66,7 +66,7 @@ pub enum CargoWords<'a> {
 
 impl<'a> CargoWords<'a> {
     /// Where its files are.
-    pub fn places(&self) -> Places<'a> {
+    pub(crate) fn places(&self) -> Places<'a> {
         match self {
             CargoWords::Resolve { places, .. }
             | CargoWords::Update { places, .. }
@@ -78,15 +78,18 @@ impl<'a> CargoWords<'a> {
 }
 
 /// What words ask for.
-#[derive(Debug, Drop)]
-pub struct Asked<'a> {
+#[derive(Drop)]
+pub(crate) struct Asked<'a> {
     pub command: CargoWords<'a>,
     pub manner: Manner,
 }
 
 /// The words of a command line with the name by which the program is to be called. Cargo puts one more before the
 /// others, `relock`; where there is no other, they ask for help.
-pub fn own_words<'a>(alloc: Global, words: &'a [String]) -> Result<Vec<&'a str>, AllocError> {
+pub(crate) fn own_words<'a>(
+    alloc: Global,
+    words: &'a [String],
+) -> Result<Vec<&'a str>, AllocError> {
     let mut own = Vec::new(alloc);
     own.push("cargo relock")?;
     for word in words.iter().skip(names(words)) {
@@ -107,7 +110,7 @@ fn names(words: &[String]) -> usize {
 }
 
 /// The command and the options that words give, the program's name first.
-pub fn read_words<'a>(alloc: Global, words: &'a [&'a str]) -> Result<Asked<'a>, WordsFault> {
+pub(crate) fn read_words<'a>(alloc: Global, words: &'a [&'a str]) -> Result<Asked<'a>, WordsFault> {
     match cargo_relock(alloc)?.try_get_matches_from(words) {
         Ok(matches) => match asked_by(alloc, &matches)? {
             Some(asked) => Ok(asked),

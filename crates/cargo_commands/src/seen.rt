@@ -3,8 +3,8 @@
 use index_reader::{FolderFault, lines};
 
 /// How much of an index a run has seen; a file that is read twice counts twice.
-#[derive(Clone, Copy, Debug)]
-pub struct Seen {
+#[derive(Clone, Copy)]
+pub(crate) struct Seen {
     /// How many names were asked for.
     pub asked: u64,
     /// Of how many there was a file.

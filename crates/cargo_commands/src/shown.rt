@@ -3,7 +3,7 @@
 use std::alloc::{AllocError, Global};
 
 /// How a control character is told.
-#[derive(Clone, Copy, Debug, PartialEq, Eq)]
+#[derive(Clone, Copy)]
 pub(crate) enum Escape {
     /// As `\u{1b}`.
     Braced,

@@ -15,7 +15,7 @@ use std::time::{Clock, Instant};
 
 /// Since when a run goes on, and who is told how far it has come.
 #[derive(Clone, Copy)]
-pub struct Watch {
+pub(crate) struct Watch {
     since: Option<Instant>,
     /// Whether a terminal shows it meanwhile.
     is_shown: bool,
@@ -25,7 +25,7 @@ pub struct Watch {
 
 impl Watch {
     /// From now on, if the time can be read.
-    pub fn from_now<R: Clock>(rt: &R, is_shown: bool, is_told: bool) -> Watch {
+    pub(crate) fn from_now<R: Clock>(rt: &R, is_shown: bool, is_told: bool) -> Watch {
         Watch {
             since: Instant::now(rt).ok(),
             is_shown,
@@ -39,7 +39,7 @@ impl Watch {
     }
 
     /// The same, if it is told at the end.
-    pub fn told<R: Clock>(&self, rt: &R) -> Option<u128> {
+    pub(crate) fn told<R: Clock>(&self, rt: &R) -> Option<u128> {
         if self.is_told { self.millis(rt) } else { None }
     }
 

@@ -40,7 +40,7 @@ fn is_in(path: &str, folder: &str) -> bool {
 }
 
 /// What a workspace says of a package in a folder below it.
-#[derive(Clone, Copy, Debug, PartialEq, Eq)]
+#[derive(Clone, Copy)]
 pub enum Membership {
     /// `members` names it.
     Member,
