@@ -30,6 +30,7 @@ enum Shown {
 fn main(rt: HostRuntime) -> io::Result<()> {
     for (name, shown) in [
         ("one-dependency", Shown::Axioms),
+        ("shared-package", Shown::Axioms),
         ("features", Shown::Followed),
         ("locked", Shown::Followed),
         ("two-classes", Shown::Followed),
