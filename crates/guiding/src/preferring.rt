@@ -6,7 +6,7 @@ ghost use Rattle.version_sets.specs.Sets.{has, size};
 use crate::choosing::greatest;
 use classes::Class;
 use features::PackageName;
-use lookups::below;
+use lookups::{below, of_class};
 use numbering::{KnownProblem, Table, classes_of, dependency_at};
 use std::alloc::{AllocError, Global};
 use std::collections::HashMap;
@@ -15,7 +15,7 @@ use vertices::{OwnerRef, VertexRef};
 
 /// Of each vertex that was to be decided, its states with the most preferred first.
 ///
-/// To find them anew for each decision takes half of a search over packages that share many classes.
+/// To find them anew for each decision takes up to a third of a search over packages with many classes.
 #[derive(Drop)]
 pub(crate) struct Preferences {
     states: HashMap<usize, Vec<u32>>,
@@ -107,13 +107,14 @@ fn versions_by_preference(
     class: Class,
 ) -> Result<Vec<u32>, AllocError> {
     let versions = known.catalogue.versions(name);
-    // The versions of a class stand together, and are the states after absent; those of higher classes are no states.
+    // The versions of a class stand together, and are the states after absent.
     let first = below(class, versions);
+    let count = of_class(class, versions).len();
     let order = known.catalogue.prefer(name)?;
     let mut states = Vec::new(alloc);
     'places: for place in order.iter() {
         let place = *place as usize;
-        if place >= first {
+        if place >= first && place - first < count {
             states.push(state_after(place - first))?;
         }
     }
