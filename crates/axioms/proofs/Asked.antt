@@ -7,7 +7,7 @@ use Rattle.model.specs.Summary.{Summary, Entry, feature, dependency, dependency_
 use Rattle.model.specs.Summary.{entries_at}
 use Rattle.manifest.specs.Manifests.{asked_by, root_asks}
 use Rattle.refutations.specs.Causes.{asks_for, entries_or_none, same_pair}
-use Rattle.axioms.specs.Asking.{row_may_ask, row_names}
+use Rattle.axioms.specs.inner.Asking.{row_may_ask, row_names}
 
 entries_ask : (d g : List ℕ) (es : List Entry)
     → list_any (asks_for d g) es ≡ list_any (same_pair (d, g)) (flat_map asked_by es)

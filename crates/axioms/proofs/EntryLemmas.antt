@@ -7,7 +7,7 @@ use Rattle.model.specs.Summary.{Entry, Summary, Table, entries_at}
 use Rattle.model.specs.Summary.{feature, dependency, dependency_feature, weak_feature}
 use Rattle.model.proofs.Flips.{text-flips}
 use Rattle.refutations.specs.Causes.{entries_or_none, same_entry}
-use Rattle.axioms.specs.Entries.{AddsEntries, HasEntries, has_named, named_view, row_has}
+use Rattle.axioms.specs.inner.Entries.{AddsEntries, HasEntries, has_named, named_view, row_has}
 use Rattle.axioms.specs.contracts.entries.NamedPartialEq.TheImpl as named_eq
 use Rattle.axioms.specs.declared.entries.Named.{Named}
 use Rattle.axioms.specs.declared.entries.Named.TheVariants as named

@@ -20,7 +20,7 @@ use Rattle.catalogue.specs.Problems.{problem_in}
 use Rattle.catalogue.specs.Ranks.{records}
 use Rattle.catalogue.specs.Stores.{CatalogueView, IsStore, Row, candidates_at, rows_by_name}
 use Rattle.catalogue.proofs.LawsCatalogues.{store-catalogue}
-use Rattle.axioms.specs.Asking.{row_owners_ask, version_asks}
+use Rattle.axioms.specs.inner.Asking.{row_owners_ask, version_asks}
 use Rattle.catalogue.proofs.Lookups.{candidates_are}
 
 -- ---- the loop over places

@@ -8,7 +8,7 @@ use Rattle.std.proofs.lemmas.List.Folds.{list_any-append}
 use Rattle.semver.specs.Parse.{Parts}
 use Rattle.semver.specs.Identifiers.{parts_of}
 use Rattle.semver.specs.declared.Version.{Version}
-use Rattle.features.specs.Texts.{has_text}
+use Rattle.features.specs.inner.Texts.{has_text}
 use Rattle.model.specs.Summary.{Dependency, Entry, Table, nothing, asked_of_target, entries_at, has_feature, same_text}
 use Rattle.model.specs.Content.{Candidate, candidates_of}
 use Rattle.model.specs.Optional.{passes}
@@ -23,10 +23,10 @@ use Rattle.catalogue.specs.Problems.{problem_in}
 use Rattle.catalogue.specs.Ranks.{records}
 use Rattle.model.specs.Candidates.{as_candidate}
 use Rattle.catalogue.specs.Stores.{CatalogueView, IsStore, Row, candidates_at, rows_by_name}
-use Rattle.axioms.specs.Asking.{row_may_ask, row_names, row_owners_ask, version_asks}
-use Rattle.axioms.specs.Gathered.{brings_in, is_asked_by_root, is_asked_by_some, is_asked_by_version, is_had}
-use Rattle.axioms.specs.Gathered.{is_known_by, is_known_feature}
-use Rattle.axioms.specs.Pairs.{Adds, has_pair}
+use Rattle.axioms.specs.inner.Asking.{row_may_ask, row_names, row_owners_ask, version_asks}
+use Rattle.axioms.specs.inner.Gathered.{brings_in, is_asked_by_root, is_asked_by_some, is_asked_by_version, is_had}
+use Rattle.axioms.specs.inner.Gathered.{is_known_by, is_known_feature}
+use Rattle.axioms.specs.inner.Pairs.{Adds, has_pair}
 use Rattle.axioms.specs.declared.pairs.Pairs.{Pairs}
 use Rattle.axioms.proofs.Asked.{owner_may_ask, rows_ask}
 use Rattle.catalogue.proofs.Lookups.{candidates_are}

@@ -7,15 +7,15 @@ use Rattle.std.specs.BTreeSet.{BTreeSet, insert_key}
 use Rattle.std.specs.Map.{lookup}
 use Rattle.std.specs.Ordering.{nat_cmp}
 use Rattle.std.specs.Cmp.Lexicographic.{slice_cmp, texts_ties}
-use Rattle.features.specs.Texts.{borrowed_cmp, has_text}
-use Rattle.features.specs.TextMaps.{at_text}
+use Rattle.features.specs.inner.Texts.{borrowed_cmp, has_text}
+use Rattle.features.specs.inner.TextMaps.{at_text}
 use Rattle.features.proofs.DraftLemmas.{has_text-insert_key}
 use Rattle.features.proofs.TextMaps.{at_text-get}
 use Rattle.model.specs.Summary.{same_text}
 use Rattle.model.proofs.Same.{text-same}
 use Rattle.model.proofs.Flips.{text-flips}
 use Rattle.refutations.specs.Causes.{same_pair}
-use Rattle.axioms.specs.Pairs.{keys_if}
+use Rattle.axioms.specs.inner.Pairs.{keys_if}
 
 pub or-none : (b : Bool) → b ≡ (b || false)
 or-none true = refl

@@ -1,6 +1,1 @@
-pub mod GatheredViews
-pub mod Entries
-pub mod Listed
-pub mod Asking
-pub mod Gathered
-pub mod Pairs
+pub mod inner

@@ -5,7 +5,7 @@ ghost use Rattle.std.specs.List.{list_any};
 ghost use Rattle.features.specs.EntryViews.{entry_view, entry_views};
 ghost use Rattle.model.specs.Summary as model;
 ghost use Rattle.refutations.specs.Causes.{same_entry};
-ghost use Rattle.axioms.specs.Entries.{AddsEntries, has_named, named_view, row_has};
+ghost use Rattle.axioms.specs.inner.Entries.{AddsEntries, has_named, named_view, row_has};
 
 use features::{Entry, FeatureName, FeatureTable, PackageName};
 use std::alloc::AllocError;
@@ -69,7 +69,7 @@ pub(crate) fn some_row_has(named: &Named<'_>, table: &FeatureTable) -> bool
     false
 }
 
-#[tactic(auto, unfolding(crate::specs::Entries::row_has))]
+#[tactic(auto, unfolding(crate::specs::inner::Entries::row_has))]
 fn row_has(named: &Named<'_>, table: &FeatureTable, row: &FeatureName) -> bool
     ensures { (es : List model.Entry) → result ≡ row_has (named_view named.now) table.now (row.now, es) }
 {

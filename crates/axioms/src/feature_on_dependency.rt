@@ -6,8 +6,8 @@ ghost use Rattle.features.specs.EntryViews.{entry_view};
 ghost use Rattle.model.specs.Vertices.{version_of};
 ghost use Rattle.refutations.specs.Causes.{dependency_at, enables, is_cause, of_enabling};
 ghost use Rattle.model.specs.Optional.{passes};
-ghost use Rattle.axioms.specs.GatheredViews.{problem_of};
-ghost use Rattle.lookups.specs.Views.{problem_view};
+ghost use Rattle.axioms.specs.inner.GatheredViews.{problem_of};
+ghost use Rattle.lookups.specs.inner.Views.{problem_view};
 
 use crate::entries::Named;
 use crate::gathered::Gathered;

@@ -2,12 +2,12 @@
 
 ghost use Rattle.std.specs.Prelude.{◌≡◌, IfOk};
 ghost use Rattle.catalogue.specs.Problems.{problem_in};
-ghost use Rattle.axioms.specs.Gathered.{is_known_feature};
-ghost use Rattle.lookups.specs.NumbersViews as numbered;
-ghost use Rattle.instances.specs.KeptViews as known;
-ghost use Rattle.axioms.specs.Listed.{AreLists, AreOfOwners, AreOfRows};
-ghost use Rattle.axioms.specs.Pairs.{HasThose};
-ghost use Rattle.lookups.specs.Views.{problem_view};
+ghost use Rattle.axioms.specs.inner.Gathered.{is_known_feature};
+ghost use Rattle.lookups.specs.inner.NumbersViews as numbered;
+ghost use Rattle.instances.specs.inner.KeptViews as known;
+ghost use Rattle.axioms.specs.inner.Listed.{AreLists, AreOfOwners, AreOfRows};
+ghost use Rattle.axioms.specs.inner.Pairs.{HasThose};
+ghost use Rattle.lookups.specs.inner.Views.{problem_view};
 ghost use Rattle.refutations.specs.Causes.{same_pair};
 ghost use Rattle.std.specs.List.{list_any};
 
@@ -50,9 +50,9 @@ pub struct Gathered<'a> {
 }
 
 impl<'a> Gathered<'a> {
-    ghost use Rattle.axioms.specs.GatheredViews.{problem_of};
+    ghost use Rattle.axioms.specs.inner.GatheredViews.{problem_of};
     ghost use Rattle.std.specs.Prelude.{IfSome};
-    ghost use Rattle.instances.specs.Keeping.{AreAll};
+    ghost use Rattle.instances.specs.inner.Keeping.{AreAll};
     ghost use Rattle.model.specs.Vertices.{dep_classes};
     ghost use Rattle.classes.specs.Classes.{class_view};
     ghost use Rattle.features.specs.Views.{dependency_view};

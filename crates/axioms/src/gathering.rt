@@ -20,10 +20,10 @@ ghost use Rattle.model.specs.Summary.{asked_of_target, has_feature, same_text};
 ghost use Rattle.refutations.specs.Causes.{asks_for, same_pair};
 ghost use Rattle.catalogue.specs.Problems.{problem_in};
 ghost use Rattle.catalogue.specs.Stores.{rows_by_name};
-ghost use Rattle.axioms.specs.Asking.{row_may_ask, row_names};
-ghost use Rattle.axioms.specs.Gathered.{asks_by, brings_in, is_asked_by_root, is_asked_by_some};
-ghost use Rattle.axioms.specs.Gathered.{is_asked_by_version, is_had, is_known_by, is_known_feature, some_asks_by};
-ghost use Rattle.axioms.specs.Pairs.{Adds, HasThose, has_pair};
+ghost use Rattle.axioms.specs.inner.Asking.{row_may_ask, row_names};
+ghost use Rattle.axioms.specs.inner.Gathered.{asks_by, brings_in, is_asked_by_root, is_asked_by_some};
+ghost use Rattle.axioms.specs.inner.Gathered.{is_asked_by_version, is_had, is_known_by, is_known_feature, some_asks_by};
+ghost use Rattle.axioms.specs.inner.Pairs.{Adds, HasThose, has_pair};
 
 use crate::pairs::Pairs;
 use catalogue::Catalogue;
@@ -72,7 +72,7 @@ fn put_names<'a>(
     Ok(())
 }
 
-#[tactic(auto, unfolding(crate::specs::Gathered::is_known_by))]
+#[tactic(auto, unfolding(crate::specs::inner::Gathered::is_known_by))]
 fn put_name<'a>(
     alloc: Global,
     known: &mut Pairs<'a>,
@@ -174,7 +174,7 @@ fn put_version<'a>(
     }
 }
 
-#[tactic(auto, unfolding(crate::specs::Gathered::is_asked_by_version))]
+#[tactic(auto, unfolding(crate::specs::inner::Gathered::is_asked_by_version))]
 fn put_owner<'a>(alloc: Global, known: &mut Pairs<'a>, owner: &'a Summary) -> Result<(), AllocError>
     ensures { OnOk result (Adds known.old known.new (is_asked_by_version (summary_view owner.now))) }
 {

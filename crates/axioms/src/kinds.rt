@@ -4,10 +4,10 @@ ghost use Rattle.std.specs.Prelude.{◌≡◌};
 ghost use Rattle.semver.specs.Identifiers.{parts_of};
 ghost use Rattle.classes.specs.Classes.{class_view};
 ghost use Rattle.refutations.specs.Causes.{is_cause, of_asking, of_entry, of_need, of_target};
-ghost use Rattle.vertices.specs.RefViews.{owner_ref_view};
-ghost use Rattle.lookups.specs.Views.{problem_view};
-ghost use Rattle.lookups.specs.CauseViews.{cause_view};
-ghost use Rattle.axioms.specs.GatheredViews.{problem_of};
+ghost use Rattle.vertices.specs.inner.RefViews.{owner_ref_view};
+ghost use Rattle.lookups.specs.inner.Views.{problem_view};
+ghost use Rattle.lookups.specs.inner.CauseViews.{cause_view};
+ghost use Rattle.axioms.specs.inner.GatheredViews.{problem_of};
 
 use crate::entries::Named;
 use crate::feature_on_dependency::is_enabling;

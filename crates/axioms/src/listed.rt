@@ -10,9 +10,9 @@ ghost use Rattle.features.specs.Views.{dependency_view};
 ghost use Rattle.model.specs.Optional.{passes};
 ghost use Rattle.model.specs.Summary.{asked_of_target, same_text};
 ghost use Rattle.refutations.specs.Causes.{dependency_at, has_entry, same_entry, some_entry};
-ghost use Rattle.vertices.specs.RefViews.{owner_ref_view};
-ghost use Rattle.axioms.specs.Entries.{named_view};
-ghost use Rattle.axioms.specs.GatheredViews.{problem_of};
+ghost use Rattle.vertices.specs.inner.RefViews.{owner_ref_view};
+ghost use Rattle.axioms.specs.inner.Entries.{named_view};
+ghost use Rattle.axioms.specs.inner.GatheredViews.{problem_of};
 
 use crate::entries::{Named, has_entry, has_named, put_entries, put_rows, some_row_has};
 use crate::gathered::Gathered;

@@ -16,7 +16,7 @@ pub struct Pairs<'a> {
 }
 
 impl<'a> Pairs<'a> {
-    ghost use Rattle.axioms.specs.Pairs.{Adds, has_pair};
+    ghost use Rattle.axioms.specs.inner.Pairs.{Adds, has_pair};
 
     pub(crate) fn new(alloc: Global) -> Pairs<'a>
         ensures { (n f : List ℕ) → has_pair result n f ≡ false }

@@ -8,8 +8,8 @@ ghost use Rattle.features.specs.Views.{dependency_view};
 ghost use Rattle.model.specs.Optional.{passes};
 ghost use Rattle.refutations.specs.Causes.{dependency_at, is_cause, lists_feature, of_ask, of_list, root_asks_for};
 ghost use Rattle.refutations.specs.Causes.{same_pair};
-ghost use Rattle.vertices.specs.RefViews.{owner_ref_view};
-ghost use Rattle.axioms.specs.GatheredViews.{problem_of};
+ghost use Rattle.vertices.specs.inner.RefViews.{owner_ref_view};
+ghost use Rattle.axioms.specs.inner.GatheredViews.{problem_of};
 
 use crate::entries::Named;
 use crate::gathered::Gathered;

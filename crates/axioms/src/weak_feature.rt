@@ -6,7 +6,7 @@ ghost use Rattle.classes.specs.Classes.{class_view};
 ghost use Rattle.features.specs.Views.{dependency_view};
 ghost use Rattle.model.specs.Vertices.{feat, same_vertex};
 ghost use Rattle.refutations.specs.Causes.{is_cause, is_weak_on, of_weak};
-ghost use Rattle.axioms.specs.GatheredViews.{problem_of};
+ghost use Rattle.axioms.specs.inner.GatheredViews.{problem_of};
 
 use crate::entries::Named;
 use crate::gathered::Gathered;

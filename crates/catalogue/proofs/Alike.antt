@@ -19,7 +19,7 @@ use Rattle.model.proofs.Lists.{to_any, to_map, all_first, all_rest}
 use Rattle.model.proofs.Same.{version-same, version-refl}
 use Rattle.model.proofs.Flips.{text-flips}
 use Rattle.lockfile.specs.Locks.{is_alike}
-use Rattle.lockfile.specs.Views.{package_view, package_views}
+use Rattle.lockfile.specs.inner.Views.{package_view, package_views}
 use Rattle.lockfile.specs.declared.package.Package.{Package}
 use Rattle.model.proofs.PackageOrder.{package_total}
 use Rattle.model.proofs.Tests.{one_test, beside}

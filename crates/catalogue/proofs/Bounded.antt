@@ -15,8 +15,8 @@ use Rattle.semver.specs.Parse.{Held, Parts}
 use Rattle.semver.specs.declared.Op.{Op}
 use Rattle.semver.specs.declared.Op.TheVariants as op
 use Rattle.model.specs.Order.{precedence}
-use Rattle.catalogue.specs.Bounds.{is_above, is_below, is_beyond, is_past_zero, is_short, number_cmp, numbers_cmp}
-use Rattle.catalogue.specs.Bounds.{has_lower, has_upper, minor_of, patch_of, upper_minor, upper_patch}
+use Rattle.catalogue.specs.inner.Bounds.{is_above, is_below, is_beyond, is_past_zero, is_short, number_cmp, numbers_cmp}
+use Rattle.catalogue.specs.inner.Bounds.{has_lower, has_upper, minor_of, patch_of, upper_minor, upper_patch}
 
 left_of : (a b : Bool) → (a && b) ≡ true → a ≡ true
 left_of true b e = refl

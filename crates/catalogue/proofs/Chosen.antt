@@ -26,7 +26,7 @@ use Rattle.model.proofs.Candidates.{oldest_first-permutes, oldest_first-rises, s
 use Rattle.model.proofs.Lists.{in_filter, to_filter, all_none, all_cons, all_first, all_rest}
 use Rattle.model.proofs.Permuted.{rising-same}
 use Rattle.model.proofs.Members.{all_in}
-use Rattle.features.specs.Valid.{BringsValid}
+use Rattle.features.specs.inner.Valid.{BringsValid}
 use Rattle.index_reader.specs.Views.{record_view}
 use Rattle.index_reader.specs.declared.record.Record as reader
 use Rattle.catalogue.specs.Loads.{records_view, with_ranks}

@@ -8,7 +8,7 @@ use Rattle.std.specs.List.{list_all}
 use Rattle.std.specs.Cmp.Lexicographic.{unequal}
 use Rattle.model.specs.Summary.{same_text}
 use Rattle.index_reader.specs.Records.{is_hexadecimal}
-use Rattle.catalogue.specs.Checksums.{digit, digits_of}
+use Rattle.catalogue.specs.inner.Checksums.{digit, digits_of}
 
 -- the digits of a byte
 abbrev pub pair : ℕ → List ℕ

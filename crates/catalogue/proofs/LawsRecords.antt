@@ -7,7 +7,7 @@ use Rattle.model.specs.Candidates.{Record, IsApart}
 use Rattle.model.proofs.Contents.{precedence-equal}
 use Rattle.model.proofs.Lists.{in_none, in_cons, all_none, pairs_none, pairs_first, pairs_rest}
 use Rattle.model.proofs.Mapped.{pairs_map}
-use Rattle.features.specs.Valid.{BringsValid}
+use Rattle.features.specs.inner.Valid.{BringsValid}
 use Rattle.index_reader.specs.Files.{records_of_file}
 use Rattle.index_reader.proofs.FileLaws.{file-kept}
 use Rattle.index_reader.proofs.ValidLemmas.{file-valid}

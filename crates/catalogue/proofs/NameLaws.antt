@@ -1,6 +1,7 @@
 -- Where a name stands among the names so far, after one more is put last.
 use Rattle.std.proofs.Common.{◌≡◌, ℕ, suc, Bool, true, false, cond, ◌||◌, List, [], ◌∷◌, ◌++◌, length, Option, Some}
-use Rattle.std.proofs.Common.{None, ◌<◌, ◌+◌, get_or, drop, Bor, flat_map, option_map, is_some, refl, sym, ap, ◌∙◌, subst}
+use Rattle.std.proofs.Common.{None, ◌<◌, ◌+◌, get_or, drop, Bor, flat_map, option_map, is_some, refl, sym, ap, ◌∙◌}
+use Rattle.std.proofs.Common.{subst}
 use Rattle.std.proofs.Common.{true≢false}
 use Rattle.std.specs.HashMap.{HashMap, IsEmpty, IsUnchanged, Updates, get}
 use Rattle.std.specs.List.{AllByRecursion, IsDistinct, list_any, position}
@@ -16,11 +17,11 @@ use Rattle.std.proofs.lemmas.List.Folds.{list_any-append, list_any_at}
 use Rattle.model.specs.Summary.{same_text}
 use Rattle.model.proofs.Lists.{all_none, all_cons}
 use Rattle.model.proofs.Same.{text-same, text-refl}
-use Rattle.features.specs.Valid.{IsPackageName}
+use Rattle.features.specs.inner.Valid.{IsPackageName}
 use Rattle.features.specs.Views.{dependency_views}
 use Rattle.features.specs.declared.dependency.DependencyParts.{DependencyParts}
 use Rattle.catalogue.specs.Runs.{meant_by}
-use Rattle.catalogue.specs.Names.{ArePlaces, insert_all, insert_key}
+use Rattle.catalogue.specs.inner.Names.{ArePlaces, insert_all, insert_key}
 use Rattle.catalogue.proofs.Rows.{position-cons}
 
 module _ {X : Type 0} (p : X → Bool) where

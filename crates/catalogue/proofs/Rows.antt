@@ -16,7 +16,7 @@ use Rattle.semver.specs.Identifiers.{parts_of}
 use Rattle.semver.specs.declared.Version.{Version}
 use Rattle.model.specs.Candidates.{Record}
 use Rattle.model.proofs.Lists.{all_none, all_cons, all_first, all_rest, pairs_none}
-use Rattle.features.specs.Valid.{IsPackageName}
+use Rattle.features.specs.inner.Valid.{IsPackageName}
 use Rattle.model.proofs.Same.{text-refl}
 use Rattle.catalogue.specs.Views.{AreRead, AreRising, AreKnown, BringValid, most_candidates, ranked_of, ranked_view}
 use Rattle.catalogue.specs.Views.{record_of}

@@ -6,7 +6,7 @@ use Rattle.std.specs.List.{list_any}
 use Rattle.std.proofs.lemmas.List.{append-nil, append_assoc, map-append, length-map, length-append}
 use Rattle.std.proofs.lemmas.List.Elements.{filter-append, All-push}
 use Rattle.std.proofs.lemmas.Option.{slice_get_past}
-use Rattle.catalogue.specs.Names.{insert_key, insert_all}
+use Rattle.catalogue.specs.inner.Names.{insert_key, insert_all}
 use Rattle.semver.specs.declared.Version.{Version}
 use Rattle.model.specs.Candidates.{Record, RustVersion, is_locked}
 use Rattle.model.specs.Content.{Content}

@@ -8,8 +8,8 @@ use Rattle.model.specs.Candidates.{Record, as_candidate}
 use Rattle.model.specs.Content.{Candidate}
 use Rattle.model.specs.Summary.{Entry, feature, dependency, dependency_feature, weak_feature, Table}
 use Rattle.model.proofs.Members.{all_in}
-use Rattle.features.specs.Valid.{IsFeatureName, IsPackageName, IsValidEntry, IsValidRow, BringsValid}
-use Rattle.vertices.specs.Valid.{HasValidParts, IsValidRecord}
+use Rattle.features.specs.inner.Valid.{IsFeatureName, IsPackageName, IsValidEntry, IsValidRow, BringsValid}
+use Rattle.vertices.specs.inner.Valid.{HasValidParts, IsValidRecord}
 use Rattle.manifest.specs.Manifests.{ManifestView, asked_by, root_asks}
 use Rattle.catalogue.specs.Problems.{problem_in}
 use Rattle.catalogue.specs.Ranks.{records}

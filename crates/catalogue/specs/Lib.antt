@@ -1,11 +1,9 @@
-pub mod Bounds
 pub mod Sources
-pub mod Names
 pub mod Faults
 pub mod Ranks
-pub mod Checksums
 pub mod Views
 pub mod Stores
 pub mod Runs
 pub mod Problems
 pub mod Loads
+pub mod inner

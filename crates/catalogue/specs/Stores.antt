@@ -8,7 +8,7 @@ use Rattle.model.specs.Summary.{same_text}
 use Rattle.model.specs.Content as model
 use Rattle.model.specs.Content.{same_version}
 use Rattle.model.specs.Candidates.{Record, as_candidate}
-use Rattle.features.specs.Valid.{IsPackageName}
+use Rattle.features.specs.inner.Valid.{IsPackageName}
 use Rattle.index_reader.specs.Files.{SkipView}
 use Rattle.catalogue.specs.Ranks.{Ranked, records}
 use Rattle.catalogue.specs.Views.{ranked_view, AreRising, AreKnown, BringValid, most_candidates}

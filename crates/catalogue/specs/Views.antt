@@ -9,7 +9,7 @@ use Rattle.model.specs.Summary as model
 use Rattle.model.specs.Summary.{KnowsFeatures}
 use Rattle.model.specs.Summary.{Entry, feature, dependency, dependency_feature, weak_feature}
 use Rattle.std.proofs.Props.{props}
-use Rattle.features.specs.Valid.{BringsValid, IsValidEntry}
+use Rattle.features.specs.inner.Valid.{BringsValid, IsValidEntry}
 use Rattle.features.specs.Views.{summary_view}
 use Rattle.classes.specs.RustVersions.{rust_version_view}
 use Rattle.catalogue.specs.Ranks.{Ranked, records}

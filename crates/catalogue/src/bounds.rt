@@ -5,8 +5,9 @@ ghost use Rattle.std.specs.List.{list_any};
 ghost use Rattle.std.specs.Ordering.{is_gt, is_lt};
 ghost use Rattle.features.specs.Views.{requirement_view};
 ghost use Rattle.semver.specs.Identifiers.{comparator_view, parts_of};
-ghost use Rattle.catalogue.specs.Bounds.{has_lower, has_upper, is_above, is_below, is_beyond, is_past_zero, is_short};
-ghost use Rattle.catalogue.specs.Bounds.{number_cmp, numbers_cmp, upper_minor, upper_patch};
+ghost use Rattle.catalogue.specs.inner.Bounds.{has_lower, has_upper, is_above, is_below, is_beyond, is_past_zero};
+ghost use Rattle.catalogue.specs.inner.Bounds.{is_short};
+ghost use Rattle.catalogue.specs.inner.Bounds.{number_cmp, numbers_cmp, upper_minor, upper_patch};
 
 use semver::{Comparator, Op, Version, VersionReq};
 use std::cmp::Ordering;

@@ -2,7 +2,8 @@
 
 ghost use Rattle.std.specs.Prelude.{◌≡◌, ◌≤◌, length};
 ghost use Rattle.catalogue.specs.Ranks.{records};
-ghost use Rattle.catalogue.specs.Views.{ranked_view, AreRising, AreRead, AreKnown, BringValid, bring-valid-prop, most_candidates};
+ghost use Rattle.catalogue.specs.Views.{ranked_view, AreRising, AreRead, AreKnown, BringValid, bring-valid-prop};
+ghost use Rattle.catalogue.specs.Views.{most_candidates};
 
 use crate::candidate::Candidate;
 use semver::Version;

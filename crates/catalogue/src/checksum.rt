@@ -5,7 +5,7 @@ ghost use Rattle.std.specs.Prelude.{IfOk, IfSome, OnOk, true};
 ghost use Rattle.std.specs.List.{list_all};
 ghost use Rattle.index_reader.specs.Records.{is_hexadecimal};
 ghost use Rattle.model.specs.Summary.{same_text};
-ghost use Rattle.catalogue.specs.Checksums.{digit, digits_of};
+ghost use Rattle.catalogue.specs.inner.Checksums.{digit, digits_of};
 
 use index_reader::are_hexadecimal;
 use std::alloc::{AllocError, Global};
@@ -28,7 +28,7 @@ enum Form {
 
 impl Model for Checksum {
     ghost use Rattle.std.specs.Prelude.{ℕ, List};
-    ghost use Rattle.catalogue.specs.Checksums.{text_of};
+    ghost use Rattle.catalogue.specs.inner.Checksums.{text_of};
 
     ghost Value = { List ℕ };
 

@@ -2,7 +2,7 @@
 
 ghost use Rattle.std.specs.Prelude.{◌≡◌, ◌++◌, ◌∷◌, [], false, length, OnOk};
 ghost use Rattle.std.specs.List.{All, IsDistinct, list_any, position};
-ghost use Rattle.features.specs.Valid.{IsPackageName};
+ghost use Rattle.features.specs.inner.Valid.{IsPackageName};
 ghost use Rattle.model.specs.Summary.{same_text};
 
 use features::PackageName;
@@ -20,7 +20,7 @@ pub(crate) struct Names {
 }
 
 impl Model for Names {
-    ghost use Rattle.catalogue.specs.Names.{ArePlaces, NamesView};
+    ghost use Rattle.catalogue.specs.inner.Names.{ArePlaces, NamesView};
 
     ghost Value = { NamesView };
 

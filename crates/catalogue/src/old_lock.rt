@@ -4,8 +4,8 @@ ghost use Rattle.std.specs.Prelude.{◌≡◌, Some};
 ghost use Rattle.semver.specs.Grammar.{IsValid};
 ghost use Rattle.semver.specs.Identifiers.{parts_of};
 ghost use Rattle.model.specs.Candidates.{is_locked};
-ghost use Rattle.lockfile.specs.Search.{sourced_cmp};
-ghost use Rattle.lockfile.specs.Views.{package_view};
+ghost use Rattle.lockfile.specs.inner.Search.{sourced_cmp};
+ghost use Rattle.lockfile.specs.inner.Views.{package_view};
 ghost use Rattle.catalogue.specs.Loads.{packages_of_old};
 
 use classes::version_order;

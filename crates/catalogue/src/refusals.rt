@@ -11,15 +11,15 @@
 //! A law is a function that does nothing: its contract is the statement.
 
 ghost use Rattle.std.specs.Prelude.{◌↔◌, List};
-ghost use Rattle.model.specs.Assignment.{Assigns, Breaks};
+ghost use Rattle.model.specs.inner.Assignment.{Assigns, Breaks};
 ghost use Rattle.model.specs.Axioms.{IsInstance, Kind, Term};
 ghost use Rattle.model.specs.Content.{Content};
-ghost use Rattle.model.specs.ContentOf.{AreKept, Kept, content_of};
+ghost use Rattle.model.specs.inner.ContentOf.{AreKept, Kept, content_of};
 ghost use Rattle.model.specs.Derivation.{IsAccepted, Step};
-ghost use Rattle.model.specs.Search.{AssignsReached, IsUnbroken, LeadsTo};
+ghost use Rattle.model.specs.inner.Search.{AssignsReached, IsUnbroken, LeadsTo};
 ghost use Rattle.model.specs.Selection.{IsValidSelection};
 ghost use Rattle.model.specs.Vertices.{State, Vertex};
-ghost use Rattle.vertices.specs.Valid.{HasValidParts};
+ghost use Rattle.vertices.specs.inner.Valid.{HasValidParts};
 ghost use Rattle.catalogue.specs.Problems.{problem_in};
 
 use crate::laws::catalogues_are_well_formed;

@@ -1,6 +1,7 @@
 //! The store behind a loaded index: for each name that was asked for, its candidates.
 
-ghost use Rattle.std.specs.Prelude.{◌≡◌, ◌<◌, ◌≤◌, ◌++◌, [], map, length, option_map, slice_get, Bool, Option, Some, IfOk};
+ghost use Rattle.std.specs.Prelude.{◌≡◌, ◌<◌, ◌≤◌, ◌++◌, [], map, length, option_map, slice_get, Bool, Option, Some};
+ghost use Rattle.std.specs.Prelude.{IfOk};
 ghost use Rattle.std.specs.Prelude.{OnOk};
 ghost use Rattle.std.specs.List.{AllPairs};
 ghost use Rattle.std.specs.List.Sorted.{IsPermutation};
@@ -48,7 +49,7 @@ impl Model for Catalogue {
     ghost use Rattle.std.specs.Prelude.{◌≡◌, map, length, string_bytes};
     ghost use Rattle.index_reader.specs.Views.{skip_view};
     ghost use Rattle.std.specs.List.{All, IsDistinct};
-    ghost use Rattle.features.specs.Valid.{IsPackageName};
+    ghost use Rattle.features.specs.inner.Valid.{IsPackageName};
     ghost use Rattle.model.specs.Summary.{same_text};
     ghost use Rattle.catalogue.specs.Stores.{CatalogueView, rows_view, IsStore};
 

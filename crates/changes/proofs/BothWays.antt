@@ -7,16 +7,16 @@ use Rattle.std.proofs.lemmas.List.{append_assoc, length-map}
 use Rattle.std.proofs.lemmas.List.Elements.{All-append, All-map, All-nil, All-weaker}
 use Rattle.std.proofs.lemmas.List.Elements.{Contains-append_cases, Contains-append_left, Contains-append_right}
 use Rattle.facts.specs.declared.rule.Rule.{Rule}
-use Rattle.facts.specs.Chains.{AreBelow, IsGiven, has}
-use Rattle.facts.specs.Chains.IsGiven.{begins, follows}
+use Rattle.facts.specs.inner.Chains.{AreBelow, IsGiven, has}
+use Rattle.facts.specs.inner.Chains.IsGiven.{begins, follows}
 use Rattle.model.proofs.Lists.{in_cons, in_map, in_none, to_map}
 use Rattle.model.specs.Content.{Content, Package, list_if}
 use Rattle.model.specs.Optional.{passes}
 use Rattle.model.specs.WellFormed.{IsContent}
-use Rattle.changes.specs.OnWays.{AreBetween, AreOnWays, IsOnWay, all_pairs, are_both, pairs_at, pairs_below}
-use Rattle.changes.specs.OnWays.{rule, rules_ahead, rules_back}
-use Rattle.changes.specs.Searches.{is_in}
-use Rattle.changes.specs.Ways.{is_way, leads, lists}
+use Rattle.changes.specs.inner.OnWays.{AreBetween, AreOnWays, IsOnWay, all_pairs, are_both, pairs_at, pairs_below}
+use Rattle.changes.specs.inner.OnWays.{rule, rules_ahead, rules_back}
+use Rattle.changes.specs.inner.Searches.{is_in}
+use Rattle.changes.specs.inner.Ways.{is_way, leads, lists}
 use Rattle.changes.proofs.Searched.{list_within}
 use Rattle.changes.proofs.Visiting.{in_first, in_rest}
 

@@ -8,8 +8,8 @@ use Rattle.std.proofs.lemmas.List.{reverse-append}
 use Rattle.std.proofs.lemmas.Option.{same_Some, slice_get_within}
 use Rattle.model.specs.Content.{Content, Package}
 use Rattle.model.specs.Optional.{passes}
-use Rattle.changes.specs.Searches.{AreBehind, AreLed, AreSorted, IsBehind, IsLed, IsSearched, IsVisited, is_end}
-use Rattle.changes.specs.Ways.{HasNoWay, is_way, leads, lists}
+use Rattle.changes.specs.inner.Searches.{AreBehind, AreLed, AreSorted, IsBehind, IsLed, IsSearched, IsVisited, is_end}
+use Rattle.changes.specs.inner.Ways.{HasNoWay, is_way, leads, lists}
 use Rattle.changes.specs.declared.searching.Visit.{Visit}
 
 -- ---- back from a visit

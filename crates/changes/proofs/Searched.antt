@@ -9,15 +9,15 @@ use Rattle.std.proofs.lemmas.List.{length-replicate}
 use Rattle.std.proofs.lemmas.List.Elements.{All-head, All-nil, All-tail, Contains-append_cases, Contains-append_left}
 use Rattle.std.proofs.lemmas.List.Elements.{Contains-append_right, Contains-get_or}
 use Rattle.std.proofs.lemmas.Option.{none-some, same_Some, slice_get_within}
-use Rattle.facts.specs.Chains.{has}
-use Rattle.facts.specs.Worklists.{unmarked}
+use Rattle.facts.specs.inner.Chains.{has}
+use Rattle.facts.specs.inner.Worklists.{unmarked}
 use Rattle.facts.proofs.ListLemmas.{in_cons, in_none}
 use Rattle.model.specs.Content.{Content, Package, list_if}
 use Rattle.model.specs.Optional.{passes}
 use Rattle.model.specs.WellFormed.{IsContent}
-use Rattle.changes.specs.Searches.{AreBegun, IsSearched, IsSearching, IsVisited, is_end, is_in, places_below}
-use Rattle.changes.specs.Searches.{seen_with, visited}
-use Rattle.changes.specs.Ways.{HasNoWay, IsShortest, is_way, lists}
+use Rattle.changes.specs.inner.Searches.{AreBegun, IsSearched, IsSearching, IsVisited, is_end, is_in, places_below}
+use Rattle.changes.specs.inner.Searches.{seen_with, visited}
+use Rattle.changes.specs.inner.Ways.{HasNoWay, IsShortest, is_way, lists}
 use Rattle.changes.specs.declared.searching.Visit.{Visit}
 use Rattle.changes.proofs.Leading.{way_ends}
 use Rattle.changes.proofs.Visiting.{Followed, MayCome, followed, in_first, in_rest}

@@ -6,13 +6,13 @@ use Rattle.std.specs.List.{slice_get}
 use Rattle.std.proofs.lemmas.Bool.{cases_Bool, eq-eqb, eqb-true, or_cases}
 use Rattle.std.proofs.lemmas.List.{length-append}
 use Rattle.std.proofs.lemmas.Option.{slice_get_within}
-use Rattle.facts.specs.Chains.{has}
+use Rattle.facts.specs.inner.Chains.{has}
 use Rattle.facts.proofs.WorklistLemmas.{new_or_old, one_fewer}
 use Rattle.model.specs.Content.{Content, Package}
 use Rattle.model.proofs.Places.{get_more, get_push, get_push_cases}
-use Rattle.changes.specs.Ways.{lists}
-use Rattle.changes.specs.Searches.{visit, visited, seen_with, is_in, IsLed, IsSeen, IsVisited, AreLed, AreSorted}
-use Rattle.changes.specs.Searches.{IsSearching}
+use Rattle.changes.specs.inner.Ways.{lists}
+use Rattle.changes.specs.inner.Searches.{visit, visited, seen_with, is_in, IsLed, IsSeen, IsVisited, AreLed, AreSorted}
+use Rattle.changes.specs.inner.Searches.{IsSearching}
 use Rattle.changes.specs.declared.searching.Visit.{Visit}
 
 -- ---- elements by number

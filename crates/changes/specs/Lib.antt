@@ -1,5 +1,1 @@
-pub mod Changed
-pub mod OnWays
-pub mod Searches
-pub mod Views
-pub mod Ways
+pub mod inner

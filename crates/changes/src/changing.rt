@@ -1,10 +1,10 @@
 //! What changed between two locks.
 
 ghost use Rattle.std.specs.Prelude.{◌≡◌, ◌++◌, ◌∷◌, [], IfOk, OnOk};
-ghost use Rattle.lockfile.specs.Views.{package_view, package_views};
+ghost use Rattle.lockfile.specs.inner.Views.{package_view, package_views};
 ghost use Rattle.catalogue.specs.Loads.{packages_of_old};
-ghost use Rattle.changes.specs.Changed.{is_one, lacking, sharing, those};
-ghost use Rattle.changes.specs.Views.{lent_views};
+ghost use Rattle.changes.specs.inner.Changed.{is_one, lacking, sharing, those};
+ghost use Rattle.changes.specs.inner.Views.{lent_views};
 
 use crate::relisting::{Relisting, relistings, roots};
 use catalogue::is_locked;

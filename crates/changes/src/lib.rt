@@ -4,7 +4,7 @@
 //! Locks are in package order, so whether one has a package is found by halves, and what came, went and stayed costs n
 //! log n (`changing`). Why a package is there is a shortest way over the lists of the lock: a search visits each
 //! package once, the nearest first (`searching`). What is hard is that no way is shorter, and that there is none where
-//! none is found: the proof goes by what the search keeps (`specs/Searches`), that what visited packages list is
+//! none is found: the proof goes by what the search keeps (`specs/inner/Searches`), that what visited packages list is
 //! visited too, and no visit is more than one list farther than the next that is followed.
 //!
 //! What is told is there as values too (`told_lines`, `steps_of`, `meaning`), for who tells it otherwise than in lines.

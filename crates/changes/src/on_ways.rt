@@ -2,11 +2,11 @@
 
 ghost use Rattle.std.specs.Prelude.{◌≡◌, ◌++◌, filter, length, map, option_map, IfOk, OnOk};
 ghost use Rattle.semver.specs.Identifiers.{parts_of};
-ghost use Rattle.lockfile.specs.Views.{package_views};
-ghost use Rattle.facts.specs.Chains.{AreBelow, has};
-ghost use Rattle.changes.specs.OnWays.{AreBetween, AreOnWays, all_pairs, are_both, pairs_at, rule};
-ghost use Rattle.changes.specs.OnWays.{rules_ahead, rules_back};
-ghost use Rattle.changes.specs.Ways.{is_meant, is_own};
+ghost use Rattle.lockfile.specs.inner.Views.{package_views};
+ghost use Rattle.facts.specs.inner.Chains.{AreBelow, has};
+ghost use Rattle.changes.specs.inner.OnWays.{AreBetween, AreOnWays, all_pairs, are_both, pairs_at, rule};
+ghost use Rattle.changes.specs.inner.OnWays.{rules_ahead, rules_back};
+ghost use Rattle.changes.specs.inner.Ways.{is_meant, is_own};
 
 use crate::searching::list_at;
 use crate::ways::{is_meant, is_own};

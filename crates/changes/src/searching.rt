@@ -4,15 +4,15 @@ ghost use Rattle.std.specs.Prelude.{◌≡◌, ◌<◌, ◌+◌, Bool, true, fal
 ghost use Rattle.std.specs.Prelude.{slice_get, slice_set, IfOk, OnOk, Some, option_map};
 ghost use Rattle.std.specs.List.{All, find};
 ghost use Rattle.semver.specs.Identifiers.{parts_of};
-ghost use Rattle.lockfile.specs.Views.{package_view, package_views};
+ghost use Rattle.lockfile.specs.inner.Views.{package_view, package_views};
 ghost use Rattle.model.specs.Content.{Content, list_if};
 ghost use Rattle.model.specs.Optional.{passes};
 ghost use Rattle.model.specs.Content as model;
 ghost use Rattle.model.specs.WellFormed.{IsContent};
-ghost use Rattle.facts.specs.Chains.{has};
-ghost use Rattle.changes.specs.Searches.{AreBehind, AreLed, IsBehind, IsLed, IsSearched, is_end, places_below};
-ghost use Rattle.changes.specs.Searches.{seen_with, visited};
-ghost use Rattle.changes.specs.Ways.{IsFound, is_meant, is_own, is_way};
+ghost use Rattle.facts.specs.inner.Chains.{has};
+ghost use Rattle.changes.specs.inner.Searches.{AreBehind, AreLed, IsBehind, IsLed, IsSearched, is_end, places_below};
+ghost use Rattle.changes.specs.inner.Searches.{seen_with, visited};
+ghost use Rattle.changes.specs.inner.Ways.{IsFound, is_meant, is_own, is_way};
 
 use crate::ways::{ends, is_own};
 use features::PackageName;
@@ -135,7 +135,7 @@ pub(crate) fn list_at(packages: &[Package], place: usize) -> &[usize]
 }
 
 /// Visits the packages of a list that weren't seen.
-#[tactic(auto, unfolding(crate::specs::Searches::visited, crate::specs::Searches::seen_with))]
+#[tactic(auto, unfolding(crate::specs::inner::Searches::visited, crate::specs::inner::Searches::seen_with))]
 fn visit_all(
     seen: &mut [bool],
     visits: &mut Vec<Visit>,

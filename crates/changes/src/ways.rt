@@ -3,9 +3,9 @@
 ghost use Rattle.std.specs.Prelude.{◌≡◌, ◌&&◌, nat_eq, IfOk, Some, option_map, slice_get};
 ghost use Rattle.std.specs.List.{list_any};
 ghost use Rattle.semver.specs.Identifiers.{parts_of};
-ghost use Rattle.lockfile.specs.Views.{package_view, package_views};
+ghost use Rattle.lockfile.specs.inner.Views.{package_view, package_views};
 ghost use Rattle.model.specs.Optional.{passes};
-ghost use Rattle.changes.specs.Ways.{IsWhy, is_meant, is_own, is_version};
+ghost use Rattle.changes.specs.inner.Ways.{IsWhy, is_meant, is_own, is_version};
 
 use crate::searching::shortest_way;
 use classes::version_order;

@@ -5,13 +5,13 @@ use Rattle.std.proofs.Math.Seq.{take-suc}
 use Rattle.std.specs.List.{AllByRecursion}
 use Rattle.model.proofs.Accepted.{all-push}
 use Rattle.model.proofs.Sorting.{each-weaker}
-use Rattle.derivations.specs.Tables.{TablesView}
+use Rattle.derivations.specs.inner.Tables.{TablesView}
 use Rattle.derivations.specs.declared.step.Term.{Term}
 use Rattle.derivations.specs.declared.step.Step.{Step}
-use Rattle.checker.specs.Names.{Sets, IsMade}
-use Rattle.checker.specs.Naming.{AreNamed, AreNamedSteps, IsGrown, IsNamed}
-use Rattle.checker.specs.Ready.{tables_of, AreReadySteps, IsReady}
-use Rattle.checker.specs.Steps.{AreOrderedSteps, IsOrderedStep}
+use Rattle.checker.specs.inner.Names.{Sets, IsMade}
+use Rattle.checker.specs.inner.Naming.{AreNamed, AreNamedSteps, IsGrown, IsNamed}
+use Rattle.checker.specs.inner.Ready.{tables_of, AreReadySteps, IsReady}
+use Rattle.checker.specs.inner.Steps.{AreOrderedSteps, IsOrderedStep}
 use Rattle.checker.specs.declared.names.Names.{Names}
 use Rattle.checker.specs.declared.naming.Naming.{Naming}
 

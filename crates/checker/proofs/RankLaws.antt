@@ -13,7 +13,7 @@ use Rattle.model.specs.Order.{text_cmp}
 use Rattle.model.proofs.Lists.{in_none, in_cons, in_first, in_rest}
 use Rattle.model.proofs.Ordered.{text-tie}
 use Rattle.model.proofs.Tests.{below-less}
-use Rattle.checker.specs.Names.{rank_of, rank_at, text_at, AreRanks}
+use Rattle.checker.specs.inner.Names.{rank_of, rank_at, text_at, AreRanks}
 
 -- ---- a place that parts those that pass from the others is how many pass
 

@@ -10,12 +10,12 @@ use Rattle.model.specs.Derivation.{states_at}
 use Rattle.model.specs.Order.{text_cmp}
 use Rattle.model.specs.Vertices.{Vertex, same_vertex}
 use Rattle.model.proofs.Same.{vertex-same}
-use Rattle.derivations.specs.Derivations.{term_cmp}
-use Rattle.derivations.specs.Tables.{TablesView, term_at, terms_at, vertex_at}
+use Rattle.derivations.specs.inner.Derivations.{term_cmp}
+use Rattle.derivations.specs.inner.Tables.{TablesView, term_at, terms_at, vertex_at}
 use Rattle.derivations.specs.declared.step.Term.{Term}
 use Rattle.vertices.specs.Texts.{vertex_text}
 use Rattle.lookups.proofs.Searching.{search_ends, search_finds, sorted_map}
-use Rattle.checker.specs.Names.{AreVertexRanks, named_set, rank_at}
+use Rattle.checker.specs.inner.Names.{AreVertexRanks, named_set, rank_at}
 
 -- ---- a search by what says the same of each element
 

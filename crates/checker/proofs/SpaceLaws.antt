@@ -14,12 +14,12 @@ use Rattle.model.specs.Vertices.{class_candidates, dep_classes, dep_space}
 use Rattle.manifest.specs.Manifests.{ManifestView}
 use Rattle.catalogue.specs.Problems.{problem_in}
 use Rattle.catalogue.specs.Stores.{CatalogueView, candidates_at, rows_by_name}
-use Rattle.lookups.specs.Ranges.{is_of}
+use Rattle.lookups.specs.inner.Ranges.{is_of}
 use Rattle.catalogue.proofs.Lookups.{candidates_are}
 use Rattle.lookups.proofs.Classed.{all_classed}
 use Rattle.lookups.proofs.SetLaws.{all_map, all_filter}
 use Rattle.instances.proofs.Spaces.{classes_all}
-use Rattle.instances.specs.FullTerms.{has_if_matched}
+use Rattle.instances.specs.inner.FullTerms.{has_if_matched}
 
 module _ (m : ManifestView) (c : CatalogueView) where
   pub classed : (ss : List State) (name : List ℕ) (k : Class) (vs : List Version) → map parts_of vs

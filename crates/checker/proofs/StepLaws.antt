@@ -18,19 +18,20 @@ use Rattle.model.specs.Derivation as steps
 use Rattle.model.specs.Order.{text_cmp}
 use Rattle.model.specs.Vertices.{same_vertex}
 use Rattle.model.proofs.Same.{vertex-other}
-use Rattle.refutations.specs.Checks.{ArePlain, RefusedStep, combines, is_step, is_none_left, end_if, end_refused}
-use Rattle.refutations.specs.Checks.{first_refused, reason_of}
-use Rattle.refutations.specs.Terms.{is_combination}
+use Rattle.refutations.specs.inner.Checks.{ArePlain, RefusedStep, combines, is_step, is_none_left, end_if, end_refused}
+use Rattle.refutations.specs.inner.Checks.{first_refused, reason_of}
+use Rattle.refutations.specs.inner.Terms.{is_combination}
 use Rattle.vertices.specs.Texts.{vertex_text}
-use Rattle.derivations.specs.Derivations.{IsTerm, AreTerms, AreStepsFrom, term_cmp}
-use Rattle.derivations.specs.Tables.{TablesView, AreStepsOf, AreTermsOf, terms_at, step_at, steps_at, step_by_origin}
-use Rattle.derivations.specs.Tables.{vertex_at}
+use Rattle.derivations.specs.inner.Derivations.{IsTerm, AreTerms, AreStepsFrom, term_cmp}
+use Rattle.derivations.specs.inner.Tables.{TablesView, AreStepsOf, AreTermsOf, terms_at, step_at, steps_at}
+use Rattle.derivations.specs.inner.Tables.{step_by_origin}
+use Rattle.derivations.specs.inner.Tables.{vertex_at}
 use Rattle.derivations.specs.declared.step.Origin.{Origin}
 use Rattle.derivations.specs.declared.step.Origin.TheVariants.{Axiom, Combination}
 use Rattle.derivations.specs.declared.step.Step.{Step}
 use Rattle.derivations.specs.declared.step.Term.{Term}
 use Rattle.catalogue.proofs.Rows.{item_at}
-use Rattle.checker.specs.Steps.{IsOrderedTerm, AreOrderedSteps}
+use Rattle.checker.specs.inner.Steps.{IsOrderedTerm, AreOrderedSteps}
 
 each_term : (t : TablesView) (terms : List Term) → AreTermsOf t terms → AllByRecursion IsTerm (terms_at t terms)
     → AllByRecursion (IsOrderedTerm t) terms

@@ -1,10 +1,3 @@
-pub mod Combinations
-pub mod Claims
-pub mod Names
-pub mod Naming
-pub mod Prepared
-pub mod Ready
-pub mod Steps
-pub mod Answers
 pub mod RefusedSteps
 pub mod Texts
+pub mod inner

@@ -3,12 +3,13 @@
 ghost use Rattle.std.specs.Prelude.{◌≡◌, ◌&&◌, Some};
 ghost use Rattle.std.specs.List.{AllByRecursion, list_all};
 ghost use Rattle.model.specs.Derivation.{both, meet_at, union_at};
-ghost use Rattle.refutations.specs.Terms.{same_at, same_states};
-ghost use Rattle.derivations.specs.Tables.{term_at, terms_at};
-ghost use Rattle.checker.specs.Claims.{IsSound, claim_first, claim_problem, claim_second, claim_tables, claim_vertex};
-ghost use Rattle.checker.specs.Claims.{fits_claim, fits_or_said_claim, is_right};
-ghost use Rattle.checker.specs.Names.{IsMade, named_set, set_if};
-ghost use Rattle.checker.specs.Ready.{IsReady, IsSetIf, tables_of};
+ghost use Rattle.refutations.specs.inner.Terms.{same_at, same_states};
+ghost use Rattle.derivations.specs.inner.Tables.{term_at, terms_at};
+ghost use Rattle.checker.specs.inner.Claims.{IsSound, claim_first, claim_problem, claim_second, claim_tables};
+ghost use Rattle.checker.specs.inner.Claims.{claim_vertex};
+ghost use Rattle.checker.specs.inner.Claims.{fits_claim, fits_or_said_claim, is_right};
+ghost use Rattle.checker.specs.inner.Names.{IsMade, named_set, set_if};
+ghost use Rattle.checker.specs.inner.Ready.{IsReady, IsSetIf, tables_of};
 
 use crate::names::Names;
 use crate::space::is_full;

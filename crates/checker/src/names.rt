@@ -1,7 +1,7 @@
 //! What the numbers of steps stand for, found once for all of them.
 
 ghost use Rattle.std.specs.Prelude.{◌≤◌, length};
-ghost use Rattle.checker.specs.Names.{AreVertexRanks};
+ghost use Rattle.checker.specs.inner.Names.{AreVertexRanks};
 
 use derivations::{Tables, Term};
 use lookups::StateSet;
@@ -25,11 +25,11 @@ impl<'a> Names<'a> {
     ghost use Rattle.std.specs.Ordering.{nat_cmp};
     ghost use Rattle.model.specs.Derivation.{states_at};
     ghost use Rattle.model.specs.Vertices.{same_vertex};
-    ghost use Rattle.refutations.specs.Terms.{same_states};
-    ghost use Rattle.derivations.specs.Tables.{terms_at, vertex_at};
+    ghost use Rattle.refutations.specs.inner.Terms.{same_states};
+    ghost use Rattle.derivations.specs.inner.Tables.{terms_at, vertex_at};
     ghost use Rattle.vertices.specs.Views.{vertex_view};
-    ghost use Rattle.checker.specs.Ready.{AreReady, IsReady, IsSetIf, tables_of};
-    ghost use Rattle.checker.specs.Names.{IsMade, named_set, rank_at};
+    ghost use Rattle.checker.specs.inner.Ready.{AreReady, IsReady, IsSetIf, tables_of};
+    ghost use Rattle.checker.specs.inner.Names.{IsMade, named_set, rank_at};
 
     pub(crate) fn new(
         tables: &'a Tables,

@@ -6,11 +6,11 @@ ghost use Rattle.std.specs.List.Sorted.{IsStrictlySortedBy};
 ghost use Rattle.vertices.specs.Orders.{state_cmp};
 ghost use Rattle.vertices.specs.Texts.{vertex_text};
 ghost use Rattle.vertices.specs.Views.{vertex_view};
-ghost use Rattle.derivations.specs.Tables.{AreStatesOf, set_at};
-ghost use Rattle.checker.specs.Names.{AreSets, AreTexts, IsMade, named_set};
-ghost use Rattle.checker.specs.Naming.{AreNamed, IsNaming, IsGrown, IsNamed};
-ghost use Rattle.checker.specs.Ready.{AreReadySteps, tables_of};
-ghost use Rattle.checker.specs.Steps.{AreOrderedSteps, IsOrderedTerm};
+ghost use Rattle.derivations.specs.inner.Tables.{AreStatesOf, set_at};
+ghost use Rattle.checker.specs.inner.Names.{AreSets, AreTexts, IsMade, named_set};
+ghost use Rattle.checker.specs.inner.Naming.{AreNamed, IsNaming, IsGrown, IsNamed};
+ghost use Rattle.checker.specs.inner.Ready.{AreReadySteps, tables_of};
+ghost use Rattle.checker.specs.inner.Steps.{AreOrderedSteps, IsOrderedTerm};
 
 use crate::names::Names;
 use crate::ranks::ranks_of;

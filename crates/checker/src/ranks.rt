@@ -4,7 +4,7 @@ ghost use Rattle.std.specs.Prelude.{◌≡◌, IfOk, map, string_bytes};
 ghost use Rattle.std.specs.List.Sorted.{IsSorted};
 ghost use Rattle.std.specs.Ordering.{is_lt};
 ghost use Rattle.model.specs.Order.{text_cmp};
-ghost use Rattle.checker.specs.Names.{AreRanks, rank_of};
+ghost use Rattle.checker.specs.inner.Names.{AreRanks, rank_of};
 
 use std::alloc::{AllocError, Global};
 

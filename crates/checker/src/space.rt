@@ -8,11 +8,11 @@ ghost use Rattle.model.specs.Vertices.{dep_classes, has_state};
 ghost use Rattle.model.specs.Vertices as model;
 ghost use Rattle.classes.specs.Classes.{class_view};
 ghost use Rattle.features.specs.Views.{dependency_view, requirement_view};
-ghost use Rattle.axioms.specs.GatheredViews.{problem_of};
-ghost use Rattle.lookups.specs.Views.{problem_view};
+ghost use Rattle.axioms.specs.inner.GatheredViews.{problem_of};
+ghost use Rattle.lookups.specs.inner.Views.{problem_view};
 ghost use Rattle.vertices.specs.Views.{vertex_view};
-ghost use Rattle.vertices.specs.RefViews.{state_ref_view};
-ghost use Rattle.instances.specs.FullTerms.{has_if_matched};
+ghost use Rattle.vertices.specs.inner.RefViews.{state_ref_view};
+ghost use Rattle.instances.specs.inner.FullTerms.{has_if_matched};
 
 use axioms::Gathered;
 use classes::{Class, is_matched};
@@ -123,7 +123,7 @@ fn has_matching(
         .all(|version| has_if_matched(version, requirement, a, b))
 }
 
-#[tactic(auto, unfolding(instances::specs::FullTerms::has_if_matched))]
+#[tactic(auto, unfolding(instances::specs::inner::FullTerms::has_if_matched))]
 fn has_if_matched(
     version: &Version,
     requirement: &VersionReq,

@@ -3,7 +3,7 @@
 ghost use Rattle.std.specs.Prelude.{◌≡◌, IfOk};
 ghost use Rattle.std.specs.List.Sorted.{IsStrictlySortedBy};
 ghost use Rattle.vertices.specs.Orders.{state_cmp};
-ghost use Rattle.derivations.specs.Tables.{AreStatesOf, states_at};
+ghost use Rattle.derivations.specs.inner.Tables.{AreStatesOf, states_at};
 
 use derivations::{Tables, states_in};
 use lookups::StateSet;

@@ -18,8 +18,8 @@ use Rattle.vertices.specs.Orders.{state_cmp}
 use Rattle.vertices.specs.Texts.{vertex_text, state_text, vertex_of_text, state_of_text, IsReadVertex, IsReadState}
 use Rattle.vertices.proofs.Bound.{same-Ok}
 use Rattle.vertices.proofs.OrderLaws.{state_total}
-use Rattle.derivations.specs.Building.{IsNewTerm, AreNewTerms, ordered_term, ordered_terms}
-use Rattle.derivations.specs.Derivations.{IsTerm, term_cmp, AreTerms}
+use Rattle.derivations.specs.inner.Building.{IsNewTerm, AreNewTerms, ordered_term, ordered_terms}
+use Rattle.derivations.specs.inner.Derivations.{IsTerm, term_cmp, AreTerms}
 use Rattle.model.proofs.Sorting.{each-in_order, sorted-in_order}
 
 -- ---- what the orders don't tell apart

@@ -17,20 +17,20 @@ use Rattle.model.specs.Derivation.{terms_of}
 use Rattle.model.proofs.Members.{element}
 use Rattle.model.proofs.Accepted.{all-push}
 use Rattle.model.specs.Derivation as steps
-use Rattle.vertices.specs.RefViews.{state_ref_view, state_ref_views}
+use Rattle.vertices.specs.inner.RefViews.{state_ref_view, state_ref_views}
 use Rattle.vertices.specs.Texts.{vertex_text, state_text, IsReadState}
 use Rattle.vertices.specs.declared.state.StateRef.{StateRef}
 use Rattle.vertices.proofs.OrderLaws.{state_total}
-use Rattle.derivations.specs.Derivations.{IsDerivation, IsTerm, AreStepsFrom}
-use Rattle.derivations.specs.Earlier.{IsReading, AreTermsBefore, AreEarlier, HaveTexts, AreWritten, term_from}
+use Rattle.derivations.specs.inner.Derivations.{IsDerivation, IsTerm, AreStepsFrom}
+use Rattle.derivations.specs.inner.Earlier.{IsReading, AreTermsBefore, AreEarlier, HaveTexts, AreWritten, term_from}
 use Rattle.derivations.specs.Lines.{Line, vertex_in_line}
 use Rattle.derivations.specs.Steps.{Written, text_of, two_of, states_in, states_of, step_by, term_of}
 use Rattle.derivations.specs.Steps.{terms_without_texts}
-use Rattle.derivations.specs.StepViews.{origin_view, written_term, written_view, written_views}
-use Rattle.derivations.specs.Origins.{step_from}
+use Rattle.derivations.specs.inner.StepViews.{origin_view, written_term, written_view, written_views}
+use Rattle.derivations.specs.inner.Origins.{step_from}
 use Rattle.derivations.specs.declared.fault.LineFault.{LineFault}
-use Rattle.derivations.specs.Tables.{TablesView, AreStepsOf, AreTermsOf, IsTermOf, IsGrown, state_at, states_at}
-use Rattle.derivations.specs.Tables.{term_at, terms_at, steps_at, step_by_origin}
+use Rattle.derivations.specs.inner.Tables.{TablesView, AreStepsOf, AreTermsOf, IsTermOf, IsGrown, state_at, states_at}
+use Rattle.derivations.specs.inner.Tables.{term_at, terms_at, steps_at, step_by_origin}
 use Rattle.derivations.specs.declared.earlier.Earlier.{Earlier}
 use Rattle.derivations.specs.declared.line.WrittenTerm.{WrittenTerm}
 use Rattle.derivations.specs.declared.step.Origin.{Origin}

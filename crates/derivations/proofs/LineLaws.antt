@@ -2,13 +2,13 @@
 use Rattle.std.proofs.Common.{◌≡◌, ℕ, List, [], ◌∷◌, ◌++◌, length, true, false, nat_lt, Ok, Err, refl, sym, ap, subst}
 use Rattle.std.proofs.lemmas.List.{length-map}
 use Rattle.model.specs.Outcome.{Faults}
-use Rattle.derivations.specs.Derivations.{IsDerivation}
-use Rattle.derivations.specs.Earlier.{IsReading}
+use Rattle.derivations.specs.inner.Derivations.{IsDerivation}
+use Rattle.derivations.specs.inner.Earlier.{IsReading}
 use Rattle.derivations.specs.Files.{wants_memory, fault_at, most_steps, with_line}
 use Rattle.trees.specs.Lines.{is_blank}
 use Rattle.derivations.specs.Lines.{line_wants_memory}
 use Rattle.derivations.specs.Steps.{step_of_line}
-use Rattle.derivations.specs.Tables.{TablesView, IsStepOf, IsGrown, step_at, steps_at}
+use Rattle.derivations.specs.inner.Tables.{TablesView, IsStepOf, IsGrown, step_at, steps_at}
 use Rattle.derivations.specs.declared.fault.DerivationFault.TheVariants.{TooMany}
 use Rattle.derivations.specs.declared.fault.LineFault.{LineFault}
 use Rattle.derivations.specs.declared.fault.LineFault.TheVariants.{OutOfMemory, NotALine, Forward}

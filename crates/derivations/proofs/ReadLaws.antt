@@ -14,7 +14,7 @@ use Rattle.model.specs.Vertices.{Vertex, State}
 use Rattle.model.specs.Axioms.{Term}
 use Rattle.model.specs.Derivation.{Step}
 use Rattle.vertices.specs.Texts.{IsReadVertex, IsReadState}
-use Rattle.derivations.specs.Derivations.{IsTerm, term_cmp, AreTerms, IsStepAt, AreStepsFrom, IsDerivation}
+use Rattle.derivations.specs.inner.Derivations.{IsTerm, term_cmp, AreTerms, IsStepAt, AreStepsFrom, IsDerivation}
 use Rattle.vertices.specs.Kinds.{kind_of_text}
 use Rattle.derivations.specs.Orders.{ordered}
 use Rattle.model.specs.Sorting.{in_order, has_alike}

@@ -14,9 +14,10 @@ use Rattle.model.specs.Axioms.{at}
 use Rattle.model.specs.Derivation.{combine}
 use Rattle.model.proofs.Accepted.{all-push}
 use Rattle.model.specs.Derivation as steps
-use Rattle.derivations.specs.Tables.{vertex_at, set_at, TablesView, state_at, states_at, term_at, terms_at}
-use Rattle.derivations.specs.Tables.{step_by_origin, step_at, steps_at, AreStatesOf, IsTermOf, AreTermsOf, IsOriginOf}
-use Rattle.derivations.specs.Tables.{IsStepOf, AreStepsOf, IsGrown}
+use Rattle.derivations.specs.inner.Tables.{vertex_at, set_at, TablesView, state_at, states_at, term_at, terms_at}
+use Rattle.derivations.specs.inner.Tables.{step_by_origin, step_at, steps_at, AreStatesOf, IsTermOf, AreTermsOf}
+use Rattle.derivations.specs.inner.Tables.{IsOriginOf}
+use Rattle.derivations.specs.inner.Tables.{IsStepOf, AreStepsOf, IsGrown}
 use Rattle.derivations.specs.declared.step.Term.{Term}
 use Rattle.derivations.specs.declared.step.Origin.{Origin}
 use Rattle.derivations.specs.declared.step.Origin.TheVariants.{Axiom, Combination}

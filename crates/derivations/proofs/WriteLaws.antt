@@ -23,7 +23,7 @@ use Rattle.model.specs.Axioms.{Kind, Root, Needed, Target, HasFeature, WantsFeat
 use Rattle.model.specs.Axioms.{FeatureOnDependency, FeatureAsks, NewestListed, WeakFeature, Term}
 use Rattle.model.specs.Derivation.{Step, given, combine, terms_of as terms_in_step}
 use Rattle.vertices.specs.Texts.{IsReadVertex, IsReadState}
-use Rattle.derivations.specs.Derivations.{IsTerm, term_cmp, AreTerms, IsStepAt, AreStepsFrom, IsDerivation}
+use Rattle.derivations.specs.inner.Derivations.{IsTerm, term_cmp, AreTerms, IsStepAt, AreStepsFrom, IsDerivation}
 use Rattle.derivations.specs.Files.{most_steps, with_read, with_line, with_lines, derivation_of_bytes}
 use Rattle.trees.specs.Lines.{is_line_end}
 use Rattle.vertices.specs.Kinds.{kind_text, kind_of_text}

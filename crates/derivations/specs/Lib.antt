@@ -3,13 +3,5 @@ pub mod Orders
 pub mod Steps
 pub mod Files
 pub mod Faults
-pub mod Origins
-pub mod Views
-pub mod StepViews
-pub mod Tables
-pub mod Derivations
 pub mod Written
-pub mod References
-pub mod Building
-pub mod Named
-pub mod Earlier
+pub mod inner

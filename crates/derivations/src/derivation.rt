@@ -3,14 +3,14 @@
 ghost use Rattle.std.specs.Prelude.{◌≡◌, ◌<◌, ◌++◌, ◌∷◌, [], IfOk, OnErr, OnOk, length};
 ghost use Rattle.model.specs.Derivation.{given, combine};
 ghost use Rattle.vertices.specs.Kinds.{kind_view};
-ghost use Rattle.vertices.specs.RefViews.{vertex_ref_view};
+ghost use Rattle.vertices.specs.inner.RefViews.{vertex_ref_view};
 ghost use Rattle.vertices.specs.Texts.{IsReadVertex};
-ghost use Rattle.derivations.specs.Building.{AreNewTerms, ordered_terms};
-ghost use Rattle.derivations.specs.Derivations.{IsDerivation, IsStepAt};
-ghost use Rattle.derivations.specs.Earlier.{IsReading};
-ghost use Rattle.derivations.specs.Named.{named_views, named_step_from, set_in_order_views};
-ghost use Rattle.derivations.specs.References.{references_at};
-ghost use Rattle.derivations.specs.Tables.{AreStepsOf, steps_at};
+ghost use Rattle.derivations.specs.inner.Building.{AreNewTerms, ordered_terms};
+ghost use Rattle.derivations.specs.inner.Derivations.{IsDerivation, IsStepAt};
+ghost use Rattle.derivations.specs.inner.Earlier.{IsReading};
+ghost use Rattle.derivations.specs.inner.Named.{named_views, named_step_from, set_in_order_views};
+ghost use Rattle.derivations.specs.inner.References.{references_at};
+ghost use Rattle.derivations.specs.inner.Tables.{AreStepsOf, steps_at};
 
 use crate::keeping_spelt::keep_named;
 use crate::named::{NamedTerm, SetInOrder, named_in_order};
@@ -35,8 +35,8 @@ pub struct Derivation {
 impl Model for Derivation {
     ghost use Rattle.std.specs.Prelude.{List};
     ghost use Rattle.model.specs.Derivation as model;
-    ghost use Rattle.derivations.specs.Derivations.{IsDerivation};
-    ghost use Rattle.derivations.specs.Tables.{AreStepsOf, steps_at};
+    ghost use Rattle.derivations.specs.inner.Derivations.{IsDerivation};
+    ghost use Rattle.derivations.specs.inner.Tables.{AreStepsOf, steps_at};
 
     ghost Value = { List model.Step };
 

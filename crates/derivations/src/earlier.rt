@@ -4,13 +4,14 @@ ghost use Rattle.std.specs.Prelude.{◌≡◌, ◌<◌, IfSome, IsTrue, Ok, Some
 ghost use Rattle.serde_json.specs.Find as json;
 ghost use Rattle.trees.specs.Trees.{tree_view, trees_view};
 ghost use Rattle.model.specs.Axioms.{at};
-ghost use Rattle.vertices.specs.RefViews.{state_ref_views};
+ghost use Rattle.vertices.specs.inner.RefViews.{state_ref_views};
 ghost use Rattle.vertices.specs.Texts.{state_text, vertex_text};
-ghost use Rattle.derivations.specs.Derivations.{IsTerm};
-ghost use Rattle.derivations.specs.Earlier.{AreEarlier, AreTermsBefore, AreWritten, HaveTexts, IsReading, term_from};
-ghost use Rattle.derivations.specs.Named.{set_in_order_view};
-ghost use Rattle.derivations.specs.Tables.{AreStatesOf, IsTermOf, TablesView, state_at, states_at, term_at};
-ghost use Rattle.derivations.specs.Tables.{vertex_at};
+ghost use Rattle.derivations.specs.inner.Derivations.{IsTerm};
+ghost use Rattle.derivations.specs.inner.Earlier.{AreEarlier, AreTermsBefore, AreWritten, HaveTexts, IsReading};
+ghost use Rattle.derivations.specs.inner.Earlier.{term_from};
+ghost use Rattle.derivations.specs.inner.Named.{set_in_order_view};
+ghost use Rattle.derivations.specs.inner.Tables.{AreStatesOf, IsTermOf, TablesView, state_at, states_at, term_at};
+ghost use Rattle.derivations.specs.inner.Tables.{vertex_at};
 
 use crate::named::SetInOrder;
 use crate::step::{Step, Term};

@@ -1,10 +1,10 @@
 //! Putting what a line says into the tables: its vertices and states get their numbers there.
 
 ghost use Rattle.std.specs.Prelude.{◌≡◌, [], IfOk};
-ghost use Rattle.derivations.specs.Origins.{step_from};
-ghost use Rattle.derivations.specs.Tables.{IsGrown, AreStatesOf, IsTermOf, IsOriginOf, states_at, term_at};
-ghost use Rattle.derivations.specs.Tables.{step_by_origin};
-ghost use Rattle.derivations.specs.Views.{term_view};
+ghost use Rattle.derivations.specs.inner.Origins.{step_from};
+ghost use Rattle.derivations.specs.inner.Tables.{IsGrown, AreStatesOf, IsTermOf, IsOriginOf, states_at, term_at};
+ghost use Rattle.derivations.specs.inner.Tables.{step_by_origin};
+ghost use Rattle.derivations.specs.inner.Views.{term_view};
 ghost use Rattle.vertices.specs.Views.{state_views};
 
 use crate::spelt::SpeltVertex;

@@ -1,11 +1,12 @@
 //! Putting a step at spelt vertices into the tables.
 
 ghost use Rattle.std.specs.Prelude.{◌≡◌, [], IfOk};
-ghost use Rattle.derivations.specs.Earlier.{AreEarlier, IsReading};
-ghost use Rattle.derivations.specs.Named.{named_step_from, set_in_order_view, set_in_order_views};
-ghost use Rattle.derivations.specs.Tables.{IsGrown, AreStatesOf, IsTermOf, AreTermsOf, IsOriginOf, IsStepOf, states_at};
-ghost use Rattle.derivations.specs.Tables.{term_at, terms_at, step_by_origin, step_at};
-ghost use Rattle.vertices.specs.RefViews.{state_ref_views};
+ghost use Rattle.derivations.specs.inner.Earlier.{AreEarlier, IsReading};
+ghost use Rattle.derivations.specs.inner.Named.{named_step_from, set_in_order_view, set_in_order_views};
+ghost use Rattle.derivations.specs.inner.Tables.{IsGrown, AreStatesOf, IsTermOf, AreTermsOf, IsOriginOf, IsStepOf};
+ghost use Rattle.derivations.specs.inner.Tables.{states_at};
+ghost use Rattle.derivations.specs.inner.Tables.{term_at, terms_at, step_by_origin, step_at};
+ghost use Rattle.vertices.specs.inner.RefViews.{state_ref_views};
 
 use crate::earlier::{Earlier, Places};
 use crate::named::SetInOrder;

@@ -6,16 +6,16 @@ ghost use Rattle.trees.specs.Trees.{tree_view, trees_view};
 ghost use Rattle.serde_json.specs.Find as json;
 ghost use Rattle.model.specs.Outcome.{Gives, guard};
 ghost use Rattle.vertices.specs.Orders.{state_cmp};
-ghost use Rattle.derivations.specs.Earlier.{AreEarlier, IsReading, term_from};
+ghost use Rattle.derivations.specs.inner.Earlier.{AreEarlier, IsReading, term_from};
 ghost use Rattle.derivations.specs.Orders.{ordered};
 ghost use Rattle.derivations.specs.Steps.{states_in, states_of, written_cmp, term_of, terms_in, terms_of, axiom_of};
 ghost use Rattle.derivations.specs.Steps.{combination_of, origin_of, is_backward, step_of, step_of_line};
-ghost use Rattle.derivations.specs.StepViews.{written_term, written_view, written_views, origin_view};
+ghost use Rattle.derivations.specs.inner.StepViews.{written_term, written_view, written_views, origin_view};
 ghost use Rattle.derivations.specs.Lines.{line_wants_memory};
-ghost use Rattle.derivations.specs.Tables.{AreTermsOf, IsGrown, IsStepOf, IsTermOf, TablesView, step_at, term_at};
-ghost use Rattle.derivations.specs.Tables.{terms_at};
+ghost use Rattle.derivations.specs.inner.Tables.{AreTermsOf, IsGrown, IsStepOf, IsTermOf, TablesView, step_at, term_at};
+ghost use Rattle.derivations.specs.inner.Tables.{terms_at};
 ghost use Rattle.vertices.specs.Views.{vertex_view, state_views};
-ghost use Rattle.derivations.specs.Views.{term_view};
+ghost use Rattle.derivations.specs.inner.Views.{term_view};
 
 use crate::earlier::{Earlier, Places};
 use crate::fault::LineFault;
@@ -214,7 +214,7 @@ fn found_or_new(
     Ok(keep_term(alloc, tables, whole)?)
 }
 
-#[tactic(auto, unfolding(crate::specs::Earlier::term_from))]
+#[tactic(auto, unfolding(crate::specs::inner::Earlier::term_from))]
 fn whole_term(alloc: Global, text: &str, value: &Tree<'_, '_>) -> Result<WholeTerm, LineFault>
     ensures { Gives line_wants_memory term_view result (term_from text.now (tree_view value.now)) }
 {

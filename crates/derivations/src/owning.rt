@@ -2,7 +2,7 @@
 
 ghost use Rattle.std.specs.Prelude.{◌≡◌, Ok, IfOk};
 ghost use Rattle.std.specs.Result.{IsOk};
-ghost use Rattle.vertices.specs.RefViews.{state_ref_view};
+ghost use Rattle.vertices.specs.inner.RefViews.{state_ref_view};
 ghost use Rattle.vertices.specs.Texts.{vertex_of_text};
 ghost use Rattle.vertices.specs.Views.{vertex_view, state_view};
 

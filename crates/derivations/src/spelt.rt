@@ -3,9 +3,10 @@
 ghost use Rattle.std.specs.Prelude.{◌≡◌, IfOk, string_bytes};
 ghost use Rattle.std.specs.Cmp.{partial_equiv_from_equiv};
 ghost use Rattle.model.specs.Vertices.{same_state, same_vertex};
-ghost use Rattle.vertices.specs.RefViews.{vertex_ref_view};
-ghost use Rattle.vertices.specs.Same.{state_alike, state_equivalence, state_fed, vertex_alike, vertex_equivalence};
-ghost use Rattle.vertices.specs.Same.{vertex_fed};
+ghost use Rattle.vertices.specs.inner.RefViews.{vertex_ref_view};
+ghost use Rattle.vertices.specs.inner.Same.{state_alike, state_equivalence, state_fed, vertex_alike};
+ghost use Rattle.vertices.specs.inner.Same.{vertex_equivalence};
+ghost use Rattle.vertices.specs.inner.Same.{vertex_fed};
 ghost use Rattle.vertices.specs.Texts.{IsReadVertex, state_text, vertex_text};
 ghost use Rattle.vertices.specs.Views.{state_view, vertex_view};
 

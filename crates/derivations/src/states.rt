@@ -1,8 +1,8 @@
 //! The states of a set, borrowed from the tables.
 
 ghost use Rattle.std.specs.Prelude.{◌≡◌, IfOk};
-ghost use Rattle.derivations.specs.Tables.{AreStatesOf, states_at};
-ghost use Rattle.vertices.specs.RefViews.{state_ref_views};
+ghost use Rattle.derivations.specs.inner.Tables.{AreStatesOf, states_at};
+ghost use Rattle.vertices.specs.inner.RefViews.{state_ref_views};
 
 use crate::tables::Tables;
 use std::alloc::{AllocError, Global};

@@ -1,7 +1,7 @@
 //! The steps of a derivation, whose vertices and states are numbers into its tables.
 
 ghost use Rattle.std.specs.Prelude.{◌≡◌};
-ghost use Rattle.derivations.specs.References.{references_by};
+ghost use Rattle.derivations.specs.inner.References.{references_by};
 
 use vertices::Kind;
 

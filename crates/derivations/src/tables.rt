@@ -1,8 +1,9 @@
 //! The vertices, states and sets of states of a derivation, each once: its steps name them by their numbers.
 
 ghost use Rattle.std.specs.Prelude.{◌≡◌, ◌<◌, IfOk, IsTrue, Some, length, map, slice_get};
-ghost use Rattle.derivations.specs.Tables.{no_tables, vertex_at, state_at, set_at, AreSetsOf, AreStatesOf, IsGrown};
-ghost use Rattle.vertices.specs.RefViews.{state_ref_view};
+ghost use Rattle.derivations.specs.inner.Tables.{no_tables, vertex_at, state_at, set_at, AreSetsOf, AreStatesOf};
+ghost use Rattle.derivations.specs.inner.Tables.{IsGrown};
+ghost use Rattle.vertices.specs.inner.RefViews.{state_ref_view};
 ghost use Rattle.vertices.specs.Texts.{state_text, vertex_text};
 ghost use Rattle.vertices.specs.Views.{vertex_view, state_view};
 
@@ -25,7 +26,7 @@ pub struct Tables {
 
 impl Model for Tables {
     ghost use Rattle.std.specs.Prelude.{map};
-    ghost use Rattle.derivations.specs.Tables.{AreSetsOf, TablesView};
+    ghost use Rattle.derivations.specs.inner.Tables.{AreSetsOf, TablesView};
 
     ghost Value = { TablesView };
 

@@ -6,7 +6,7 @@ ghost use Rattle.trees.specs.Trees.{text_view, tree_view, trees_view};
 ghost use Rattle.model.specs.Outcome.{Gives};
 ghost use Rattle.derivations.specs.Steps.{data_of_bytes, text_of, whole_of, item_at, none_at, two_of};
 ghost use Rattle.derivations.specs.Lines.{line_wants_memory, needed};
-ghost use Rattle.derivations.specs.StepViews.{two_view};
+ghost use Rattle.derivations.specs.inner.StepViews.{two_view};
 
 use crate::fault::LineFault;
 use std::alloc::Global;

@@ -6,9 +6,10 @@ ghost use Rattle.model.specs.Axioms as axioms;
 ghost use Rattle.vertices.specs.Texts.{vertex_text};
 ghost use Rattle.vertices.specs.Kinds.{kind_text, kind_view};
 ghost use Rattle.derivations.specs.Files.{derivation_of_bytes, most_steps};
-ghost use Rattle.derivations.specs.Tables.{AreStatesOf, AreStepsOf, AreTermsOf, IsOriginOf, IsStepOf, IsTermOf};
-ghost use Rattle.derivations.specs.Tables.{state_at, states_at, step_at, step_by_origin, steps_at, term_at, terms_at};
-ghost use Rattle.derivations.specs.Tables.{vertex_at};
+ghost use Rattle.derivations.specs.inner.Tables.{AreStatesOf, AreStepsOf, AreTermsOf, IsOriginOf, IsStepOf, IsTermOf};
+ghost use Rattle.derivations.specs.inner.Tables.{state_at, states_at, step_at, step_by_origin, steps_at, term_at};
+ghost use Rattle.derivations.specs.inner.Tables.{terms_at};
+ghost use Rattle.derivations.specs.inner.Tables.{vertex_at};
 ghost use Rattle.derivations.specs.Written.{quoted, comma_if, with_commas, state_json, term_json, combination_json};
 ghost use Rattle.derivations.specs.Written.{origin_json, step_json, lines_of};
 

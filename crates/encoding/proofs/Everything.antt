@@ -24,9 +24,9 @@ use Rattle.refutations.proofs.Named.{dep_owner, entry-is, to_entry, row_of}
 use Rattle.numbering.proofs.Each.{from_if, in_all, only_one, to_all, to_if}
 use Rattle.numbering.proofs.ClassOrder.{IsOlder}
 use Rattle.numbering.proofs.Distinct.{of_rows, older_differ}
-use Rattle.encoding.specs.Everything.{ask_if, asks_of, versions_of, feature_of, asked_if, asked_of, asked_for}
-use Rattle.encoding.specs.Everything.{of_dependency, of_dependencies, of_entry, of_feature, of_version, of_name}
-use Rattle.encoding.specs.Everything.{of_root, named}
+use Rattle.encoding.specs.inner.Everything.{ask_if, asks_of, versions_of, feature_of, asked_if, asked_of, asked_for}
+use Rattle.encoding.specs.inner.Everything.{of_dependency, of_dependencies, of_entry, of_feature, of_version, of_name}
+use Rattle.encoding.specs.inner.Everything.{of_root, named}
 
 -- ---- lists
 

@@ -16,7 +16,7 @@ use Rattle.model.proofs.Members.{each_at}
 use Rattle.numbering.specs.Numberings.{IsGrown, IsNumbering, IsWhole, Numbering, number_in, with_vertex}
 use Rattle.numbering.proofs.Needing.{grows_on, numbering_put, put_grows}
 use Rattle.encoding.specs.Encodings.{AreVertices, numbered}
-use Rattle.encoding.specs.Everything.{named}
+use Rattle.encoding.specs.inner.Everything.{named}
 use Rattle.encoding.proofs.Everything.{all_named, named_are}
 
 still_in : (vs new : Numbering) (v : Vertex) → IsGrown vs new → Contains vs v → Contains new v

@@ -19,8 +19,8 @@ use Rattle.model.proofs.Members.{all_in}
 use Rattle.refutations.specs.Causes.{Cause, is_cause}
 use Rattle.std.proofs.lemmas.List.Elements.{Contains-append_cases, Contains-append_right, Contains-append_left}
 use Rattle.std.proofs.lemmas.List.Elements.{Contains-push_cases}
-use Rattle.numbering.specs.Assignments.{state_at}
-use Rattle.numbering.specs.CausesAt.{causes_at, with_causes}
+use Rattle.numbering.specs.inner.Assignments.{state_at}
+use Rattle.numbering.specs.inner.CausesAt.{causes_at, with_causes}
 use Rattle.numbering.specs.Numberings.{IsNumbering, IsWhole, Numbering}
 use Rattle.numbering.specs.Pairs.{AreCausesAt, AreGiven, Given, IsGivenAt, Pair, first_pair}
 use Rattle.numbering.proofs.CausesLaws.{at_exact}

@@ -1,5 +1,6 @@
 -- What the vertices that are kept are, and how many states they have.
-use Rattle.std.proofs.Common.{◌≡◌, ◌<◌, ℕ, get_or, List, [], ◌∷◌, length, map, Some, slice_get, refl, sym, ap, ◌∙◌, subst}
+use Rattle.std.proofs.Common.{◌≡◌, ◌<◌, ℕ, get_or, List, [], ◌∷◌, length, map, Some, slice_get, refl, sym, ap, ◌∙◌}
+use Rattle.std.proofs.Common.{subst}
 use Rattle.std.proofs.lemmas.List.{length-map}
 use Rattle.std.proofs.lemmas.Option.{same_Some, slice_get_read}
 use Rattle.model.specs.Content.{Problem}
@@ -8,8 +9,8 @@ use Rattle.model.specs.Vertices.{Vertex, space}
 use Rattle.model.proofs.Places.{map_at}
 use Rattle.numbering.specs.Numberings.{Numbering}
 use Rattle.encoding.specs.Encodings.{AreVertices, EncodingView, numbered}
-use Rattle.encoding.specs.Everything.{named}
-use Rattle.encoding.specs.Rows.{IsEncoding, row_view, sized, vertices_of}
+use Rattle.encoding.specs.inner.Everything.{named}
+use Rattle.encoding.specs.inner.Rows.{IsEncoding, row_view, sized, vertices_of}
 use Rattle.encoding.specs.Views.{vertex_view}
 use Rattle.encoding.specs.declared.rows.Row.{Row}
 use Rattle.encoding.proofs.Numbered.{every_vertex}

@@ -18,7 +18,7 @@ use Rattle.catalogue.specs.Ranks.{records}
 use Rattle.catalogue.specs.Stores.{CatalogueView, Row, candidates_at}
 use Rattle.refutations.specs.Causes.{entries_or_none}
 use Rattle.catalogue.proofs.Lookups.{candidates_are}
-use Rattle.encoding.specs.Everything.{asked_for, asked_of, versions, versions_of}
+use Rattle.encoding.specs.inner.Everything.{asked_for, asked_of, versions, versions_of}
 
 -- one more of a list
 pub rest_more : {X : Type 0} (f : X → List Vertex) (vs new all : List Vertex) (x : X) (xs : List X)

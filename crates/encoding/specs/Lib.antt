@@ -1,5 +1,4 @@
-pub mod Everything
 pub mod Views
 pub mod Encodings
-pub mod Rows
 pub mod Everywhere
+pub mod inner

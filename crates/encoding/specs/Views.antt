@@ -3,7 +3,7 @@ use Rattle.std.specs.Prelude.{List, map}
 use Rattle.semver.specs.Identifiers.{parts_of}
 use Rattle.classes.specs.Classes.{class_view}
 use Rattle.model.specs.Vertices as model
-use Rattle.vertices.specs.RefViews.{vertex_ref_view}
+use Rattle.vertices.specs.inner.RefViews.{vertex_ref_view}
 use Rattle.vertices.specs.Views.{owner_view}
 use Rattle.vertices.specs.declared.vertex.VertexRef.{VertexRef}
 use Rattle.encoding.specs.declared.vertex.Vertex.{Vertex}

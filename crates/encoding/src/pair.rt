@@ -3,13 +3,13 @@
 ghost use Rattle.std.specs.Prelude.{◌≡◌, ◌<◌, IfOk, Some, codes, length, slice_get};
 ghost use Rattle.catalogue.specs.Problems.{problem_in};
 ghost use Rattle.model.specs.Vertices.{Vertex as model, space};
-ghost use Rattle.numbering.specs.Assignments.{state_at};
+ghost use Rattle.numbering.specs.inner.Assignments.{state_at};
 ghost use Rattle.numbering.specs.GivenViews.{given_views};
-ghost use Rattle.numbering.specs.KnownProblem.{KnowsDefault, problem};
+ghost use Rattle.numbering.specs.inner.KnownProblem.{KnowsDefault, problem};
 ghost use Rattle.numbering.specs.Pairs.{IsGivenAt};
 ghost use Rattle.vertices.specs.Views.{state_view};
 ghost use Rattle.encoding.specs.Encodings.{AreVertices};
-ghost use Rattle.encoding.specs.Rows.{vertices_of};
+ghost use Rattle.encoding.specs.inner.Rows.{vertices_of};
 ghost use Rattle.encoding.specs.Views.{vertex_view};
 
 use crate::rows::{Row, borrowed, table_of};

@@ -2,10 +2,10 @@
 
 ghost use Rattle.std.specs.Prelude.{◌≡◌, ◌++◌, ◌∷◌, [], Some, IfOk, OnOk, map, position, slice_get};
 ghost use Rattle.model.specs.Vertices.{Vertex as model, same_vertex};
-ghost use Rattle.vertices.specs.RefViews.{vertex_ref_view};
-ghost use Rattle.numbering.specs.KnownProblem.{KnowsDefault, problem};
+ghost use Rattle.vertices.specs.inner.RefViews.{vertex_ref_view};
+ghost use Rattle.numbering.specs.inner.KnownProblem.{KnowsDefault, problem};
 ghost use Rattle.encoding.specs.Encodings.{numbered};
-ghost use Rattle.encoding.specs.Rows.{IsEncoding, row_view, sized, vertices_of};
+ghost use Rattle.encoding.specs.inner.Rows.{IsEncoding, row_view, sized, vertices_of};
 ghost use Rattle.encoding.specs.Views.{vertex_view, vertex_views};
 
 use crate::naming::named;

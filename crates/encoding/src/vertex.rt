@@ -1,7 +1,7 @@
 //! Vertices that keep their names.
 
 ghost use Rattle.std.specs.Prelude.{◌≡◌, IfOk};
-ghost use Rattle.vertices.specs.RefViews.{owner_ref_view, state_ref_view, vertex_ref_view};
+ghost use Rattle.vertices.specs.inner.RefViews.{owner_ref_view, state_ref_view, vertex_ref_view};
 ghost use Rattle.vertices.specs.Views.{owner_view, state_view};
 ghost use Rattle.encoding.specs.Views.{vertex_view};
 

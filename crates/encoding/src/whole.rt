@@ -36,7 +36,7 @@ pub struct Encoding<'a> {
 impl<'a> Model for Encoding<'a> {
     ghost use Rattle.catalogue.specs.Problems.{problem_in};
     ghost use Rattle.encoding.specs.Encodings.{EncodingView};
-    ghost use Rattle.encoding.specs.Rows.{IsEncoding, vertices_of};
+    ghost use Rattle.encoding.specs.inner.Rows.{IsEncoding, vertices_of};
 
     ghost Value = { EncodingView };
 

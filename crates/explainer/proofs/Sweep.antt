@@ -7,9 +7,9 @@ use Rattle.std.proofs.lemmas.Bool.{eqb-true, eq-eqb}
 use Rattle.std.proofs.lemmas.Bool.Decides.{nat_tests}
 use Rattle.std.proofs.lemmas.List.{get_or-set_same, get_or-set_other, length-set, reverse-append}
 use Rattle.model.specs.Derivation.{Step, given, combine}
-use Rattle.derivations.specs.References.{references_of, references_at}
+use Rattle.derivations.specs.inner.References.{references_of, references_at}
 use Rattle.explainer.specs.Explanations.{refers_to, refers_at, needed_from}
-use Rattle.explainer.specs.Marks.{with_two, is_needed}
+use Rattle.explainer.specs.inner.Marks.{with_two, is_needed}
 
 -- the numbers found, lowest first, once so many steps are left to look at
 abbrev pub sweep : List Step → ℕ → List Bool → List ℕ → List ℕ

@@ -2,8 +2,8 @@
 use Rattle.std.proofs.Common.{◌≡◌, ℕ, zero, suc, ◌<◌, List, [], ◌∷◌, map, length, get_or, sym, ap, ◌∙◌, subst, arith}
 use Rattle.std.specs.List.{AllByRecursion}
 use Rattle.std.proofs.lemmas.List.{get_or-map, length-map}
-use Rattle.derivations.specs.Tables.{TablesView, set_at}
-use Rattle.explainer.specs.Texts.{set_words, sets_words}
+use Rattle.derivations.specs.inner.Tables.{TablesView, set_at}
+use Rattle.explainer.specs.inner.Texts.{set_words, sets_words}
 
 -- one of the elements passes as all do
 pub at-each : {X V : Type 0} (P : V → Type 0) (view : X → V) (xs : List X) (i : ℕ) (x : X)

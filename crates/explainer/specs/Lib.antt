@@ -1,3 +1,2 @@
 pub mod Explanations
-pub mod Marks
-pub mod Texts
+pub mod inner

@@ -2,7 +2,7 @@
 
 ghost use Rattle.std.specs.Prelude.{◌≡◌, ◌<◌, ◌++◌, ◌∷◌, [], if◌then◌else◌, true, IfOk, OnOk, length, slice_set};
 ghost use Rattle.explainer.specs.Explanations.{needed};
-ghost use Rattle.explainer.specs.Marks.{is_needed, with_two};
+ghost use Rattle.explainer.specs.inner.Marks.{is_needed, with_two};
 
 use derivations::Derivation;
 use std::alloc::{AllocError, Global};

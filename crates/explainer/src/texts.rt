@@ -3,9 +3,9 @@
 ghost use Rattle.std.specs.Prelude.{◌≡◌, ◌<◌, ◌++◌, IfOk, OnOk, codes, length, map, string_bytes};
 ghost use Rattle.std.specs.List.{AllByRecursion};
 ghost use Rattle.vertices.specs.Texts.{state_text, vertex_text};
-ghost use Rattle.derivations.specs.Tables.{AreStatesOf, set_at, state_at, vertex_at};
+ghost use Rattle.derivations.specs.inner.Tables.{AreStatesOf, set_at, state_at, vertex_at};
 ghost use Rattle.explainer.specs.Explanations.{text_if};
-ghost use Rattle.explainer.specs.Texts.{set_words, sets_words};
+ghost use Rattle.explainer.specs.inner.Texts.{set_words, sets_words};
 
 use derivations::Tables;
 use std::alloc::{AllocError, Global};
@@ -20,8 +20,8 @@ pub(crate) struct Texts<'a> {
 
 impl<'a> Model for Texts<'a> {
     ghost use Rattle.std.specs.Prelude.{◌≡◌, map, string_bytes};
-    ghost use Rattle.derivations.specs.Tables.{TablesView};
-    ghost use Rattle.explainer.specs.Texts.{sets_words};
+    ghost use Rattle.derivations.specs.inner.Tables.{TablesView};
+    ghost use Rattle.explainer.specs.inner.Texts.{sets_words};
 
     ghost Value = { TablesView };
 

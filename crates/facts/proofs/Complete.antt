@@ -6,8 +6,8 @@ use Rattle.std.proofs.lemmas.Bool.{eq-eqb}
 use Rattle.std.proofs.lemmas.List.Elements.{Contains-append_left, Contains-append_right}
 use Rattle.std.proofs.lemmas.Option.{same_Some}
 use Rattle.facts.specs.declared.rule.Rule.{Rule}
-use Rattle.facts.specs.Chains.{has, IsGiven}
-use Rattle.facts.specs.Chains.IsGiven.{begins, follows}
+use Rattle.facts.specs.inner.Chains.{has, IsGiven}
+use Rattle.facts.specs.inner.Chains.IsGiven.{begins, follows}
 use Rattle.model.specs.Summary.{Summary, Dependency, Entry, feature, dependency, dependency_feature, weak_feature}
 use Rattle.model.specs.Summary.{same_text, entries_at, asked_of_target}
 use Rattle.model.specs.Facts.{Fact, here, on, enabled, Brings, Lists}
@@ -18,11 +18,12 @@ use Rattle.model.proofs.Lists.{in_none, in_first, in_rest, to_filter, all_get}
 use Rattle.model.proofs.Flat.{to_flat, in_flat}
 use Rattle.model.proofs.Places.{some_at, got_in}
 use Rattle.manifest.specs.Manifests.{root_asks, asked_by}
-use Rattle.facts.specs.Graphs.{NodeView, brings_if, starts_if, target_if, brings_at, target_at, IsFactOf, AreWithin}
-use Rattle.facts.specs.Graphs.{IsGraph}
-use Rattle.facts.specs.FactNumbers.{LinkView, FactNumbersView}
-use Rattle.facts.specs.RuleLists.{one, both, number_on, package_at, ask, ask_features, arrive, is_needed, need}
-use Rattle.facts.specs.RuleLists.{enable_all, ask_all, entry_rules, root_rules, all_rules}
+use Rattle.facts.specs.inner.Graphs.{NodeView, brings_if, starts_if, target_if, brings_at, target_at, IsFactOf}
+use Rattle.facts.specs.inner.Graphs.{AreWithin}
+use Rattle.facts.specs.inner.Graphs.{IsGraph}
+use Rattle.facts.specs.inner.FactNumbers.{LinkView, FactNumbersView}
+use Rattle.facts.specs.inner.RuleLists.{one, both, number_on, package_at, ask, ask_features, arrive, is_needed, need}
+use Rattle.facts.specs.inner.RuleLists.{enable_all, ask_all, entry_rules, root_rules, all_rules}
 use Rattle.facts.proofs.Numbers.{Mark, IsLink}
 use Rattle.facts.proofs.Members.{in_one, to_link, to_entry, to_root}
 use Rattle.facts.proofs.Sound.{IsTable, At}

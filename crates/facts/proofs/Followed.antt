@@ -15,8 +15,8 @@ use Rattle.model.specs.Selection.{Class, IsFact, IsPlace, IsRootAt, IsTarget, Ha
 use Rattle.model.specs.Vertices.{Owner, the_root, version_of, Vertex, pkg, dep, State, absent, version, in_class}
 use Rattle.model.specs.Vertices.{owner_brings, same_owner}
 use Rattle.model.specs.Stands.{IsLink, IsReachedFact, StandsFor, name_of}
-use Rattle.model.specs.Assignment.{Assigns, IsOwnerAt, Locks}
-use Rattle.model.specs.Search.{IsUnbroken, LeadsTo}
+use Rattle.model.specs.inner.Assignment.{Assigns, IsOwnerAt, Locks}
+use Rattle.model.specs.inner.Search.{IsUnbroken, LeadsTo}
 use Rattle.model.proofs.Same.{owner-refl, owner-same, text-same}
 use Rattle.model.proofs.Inner.{version_inner, class_inner}
 use Rattle.model.proofs.Owners.{is_candidate, owner_is, owner_package, same_owner_place, same_package, served_is}

@@ -14,16 +14,17 @@ use Rattle.model.specs.Stands.{IsLink, IsReachedFact, StandsFor, name_of}
 use Rattle.model.proofs.Lists.{in_first, in_rest, all_none, all_cons, pairs_get}
 use Rattle.model.proofs.Same.{text-refl, version-refl}
 use Rattle.manifest.specs.Manifests.{root_asks}
-use Rattle.facts.specs.Graphs.{NodeView, brings_if, starts_if, target_if, brings_at, starts_at, target_at, flag_at}
-use Rattle.facts.specs.Graphs.{IsFactOf, IsGraph}
+use Rattle.facts.specs.inner.Graphs.{NodeView, brings_if, starts_if, target_if, brings_at, starts_at, target_at}
+use Rattle.facts.specs.inner.Graphs.{flag_at}
+use Rattle.facts.specs.inner.Graphs.{IsFactOf, IsGraph}
 use Rattle.facts.proofs.Mapped.{Keeps, HoldsFar, holds_far}
 use Rattle.std.specs.List.{All}
 use Rattle.model.specs.Axioms.{IsOwner}
-use Rattle.model.specs.ContentOf.{Kept, package_of, IsTargetOf, AreKept}
+use Rattle.model.specs.inner.ContentOf.{Kept, package_of, IsTargetOf, AreKept}
 use Rattle.model.proofs.Closed.{owner_of_fact}
 use Rattle.model.proofs.Gathered.{name_back}
 use Rattle.model.proofs.Places.{some_at, place_of, got_in}
-use Rattle.facts.specs.Nodes.{AreMet, IsNode, IsLead, AreFlags}
+use Rattle.facts.specs.inner.Nodes.{AreMet, IsNode, IsLead, AreFlags}
 use Rattle.facts.specs.Built.{LeadsFrom, AreFound, IsBuilt}
 
 -- ---- the package that an owner is

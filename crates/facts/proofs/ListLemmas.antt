@@ -6,9 +6,9 @@ use Rattle.std.specs.Prelude.{◌==◌, if◌then◌else◌}
 use Rattle.std.specs.declared.alloc.Global.{Global}
 use Rattle.std.proofs.lemmas.List.Elements.{Contains-append_left, Contains-push, Contains-push_cases}
 use Rattle.facts.specs.declared.rule.Rule.{Rule}
-use Rattle.facts.specs.Chains.{AreBelow}
-use Rattle.facts.specs.Worklists.{IsBelow}
-use Rattle.facts.specs.Lists.{rule_lists, rules_at, no_lists, put_at, put_both, put_all, index_of}
+use Rattle.facts.specs.inner.Chains.{AreBelow}
+use Rattle.facts.specs.inner.Worklists.{IsBelow}
+use Rattle.facts.specs.inner.Lists.{rule_lists, rules_at, no_lists, put_at, put_both, put_all, index_of}
 
 -- a rule is put into the list at a place
 pub put-set : (ls : List (Vec Rule Global)) (i : ℕ) (r : Rule) (d v : Vec Rule Global) → i < length ls

@@ -9,10 +9,11 @@ use Rattle.model.proofs.Same.{text-same}
 use Rattle.model.proofs.Lists.{in_none, in_cons, in_first, in_rest}
 use Rattle.model.proofs.Flat.{to_flat}
 use Rattle.model.proofs.Places.{got_in}
-use Rattle.facts.specs.FactNumbers.{LinkView, FactNumbersView}
-use Rattle.facts.specs.RuleLists.{number_on, link_rules, entry_rules, root_rules, root_entries, root_table}
-use Rattle.facts.specs.RuleLists.{entries_rules, feature_rules, features_rules, table_rules, package_rules, rules_from}
-use Rattle.facts.specs.RuleLists.{all_rules}
+use Rattle.facts.specs.inner.FactNumbers.{LinkView, FactNumbersView}
+use Rattle.facts.specs.inner.RuleLists.{number_on, link_rules, entry_rules, root_rules, root_entries, root_table}
+use Rattle.facts.specs.inner.RuleLists.{entries_rules, feature_rules, features_rules, table_rules, package_rules}
+use Rattle.facts.specs.inner.RuleLists.{rules_from}
+use Rattle.facts.specs.inner.RuleLists.{all_rules}
 
 module _ {X : Type 0} where
   pub in_one : (x y : X) → Contains (x ∷ []) y → x ≡ y

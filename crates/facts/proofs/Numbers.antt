@@ -6,9 +6,10 @@ use Rattle.std.proofs.Common.{arith}
 use Rattle.std.proofs.lemmas.List.{length-append, append_assoc}
 use Rattle.model.specs.Summary.{Dependency, Table, same_text, has_feature, entries_at}
 use Rattle.model.proofs.Same.{text-same}
-use Rattle.features.specs.Places.{place_of}
-use Rattle.facts.specs.Graphs.{NodeView}
-use Rattle.facts.specs.FactNumbers.{LinkView, FactNumbersView, number_in, links_from, links_called, IsNumberedFrom}
+use Rattle.features.specs.inner.Places.{place_of}
+use Rattle.facts.specs.inner.Graphs.{NodeView}
+use Rattle.facts.specs.inner.FactNumbers.{LinkView, FactNumbersView, number_in, links_from, links_called}
+use Rattle.facts.specs.inner.FactNumbers.{IsNumberedFrom}
 
 -- a fact of a package
 pub data Mark : Type 0 where

@@ -1,9 +1,9 @@
 -- How facts get their numbers, step by step.
 use Rattle.std.proofs.Common.{◌≡◌, ℕ, ◌+◌, List, [], ◌∷◌, ◌++◌, length, Bool, false, ap, ◌∙◌, subst, arith}
 use Rattle.std.proofs.lemmas.List.{length-append, append_assoc}
-use Rattle.facts.specs.Graphs.{NodeView}
-use Rattle.facts.specs.FactNumbers.{unmarked_for, flags_of, flags_of_all, FactNumbersView, IsNumberedFrom}
-use Rattle.facts.specs.FactNumbers.{AreNumberedFrom}
+use Rattle.facts.specs.inner.Graphs.{NodeView}
+use Rattle.facts.specs.inner.FactNumbers.{unmarked_for, flags_of, flags_of_all, FactNumbersView, IsNumberedFrom}
+use Rattle.facts.specs.inner.FactNumbers.{AreNumberedFrom}
 
 -- one more flag
 pub flag_more : {X : Type 0} (marked more whole : List Bool) (x : X) (xs : List X)

@@ -7,8 +7,8 @@ use Rattle.facts.specs.declared.rule.Rule.{Rule}
 use Rattle.model.specs.Summary.{Entry, Table, entries_at}
 use Rattle.model.specs.Tables.{IsInOrder}
 use Rattle.features.proofs.PlaceLemmas.{place_of-row, entries_at-row}
-use Rattle.facts.specs.FactNumbers.{FactNumbersView, number_in}
-use Rattle.facts.specs.RuleLists.{number_on, entries_rules, feature_rules, features_rules}
+use Rattle.facts.specs.inner.FactNumbers.{FactNumbersView, number_in}
+use Rattle.facts.specs.inner.RuleLists.{number_on, entries_rules, feature_rules, features_rules}
 
 module _ (ps : List FactNumbersView) (p : FactNumbersView) where
   -- each row has its number, from k on

@@ -6,8 +6,8 @@ use Rattle.std.proofs.lemmas.List.Elements.{Contains-append_cases}
 use Rattle.std.proofs.lemmas.Bool.{eqb-true}
 use Rattle.std.proofs.lemmas.Option.{same_Some}
 use Rattle.facts.specs.declared.rule.Rule.{Rule}
-use Rattle.facts.specs.Chains.{has, IsGiven}
-use Rattle.facts.specs.Chains.IsGiven.{begins, follows}
+use Rattle.facts.specs.inner.Chains.{has, IsGiven}
+use Rattle.facts.specs.inner.Chains.IsGiven.{begins, follows}
 use Rattle.model.specs.Summary.{Summary, Dependency, Entry, feature, dependency, dependency_feature, weak_feature}
 use Rattle.model.specs.Summary.{Table, same_text, has_feature, entries_at, asked_of_target}
 use Rattle.model.specs.Facts.{Fact, here, on, enabled, Brings, Lists}
@@ -18,11 +18,12 @@ use Rattle.model.proofs.Lists.{in_none, in_cons, in_first, in_filter}
 use Rattle.model.proofs.Flat.{to_flat, in_flat}
 use Rattle.model.proofs.Places.{place_of}
 use Rattle.manifest.specs.Manifests.{root_asks, asked_by}
-use Rattle.facts.specs.Graphs.{NodeView, brings_if, target_if, brings_at, target_at, IsFactOf, LacksFeature}
-use Rattle.facts.specs.FactNumbers.{LinkView, FactNumbersView}
-use Rattle.facts.specs.RuleLists.{one, both, number_on, package_at, ask, ask_features, arrive, need, link_rules}
-use Rattle.facts.specs.RuleLists.{enable_all, ask_all, entry_rules, root_rules, root_entries, root_table, entries_rules}
-use Rattle.facts.specs.RuleLists.{feature_rules, features_rules, table_rules, all_rules}
+use Rattle.facts.specs.inner.Graphs.{NodeView, brings_if, target_if, brings_at, target_at, IsFactOf, LacksFeature}
+use Rattle.facts.specs.inner.FactNumbers.{LinkView, FactNumbersView}
+use Rattle.facts.specs.inner.RuleLists.{one, both, number_on, package_at, ask, ask_features, arrive, need, link_rules}
+use Rattle.facts.specs.inner.RuleLists.{enable_all, ask_all, entry_rules, root_rules, root_entries, root_table}
+use Rattle.facts.specs.inner.RuleLists.{entries_rules}
+use Rattle.facts.specs.inner.RuleLists.{feature_rules, features_rules, table_rules, all_rules}
 use Rattle.facts.proofs.Numbers.{Mark, is_here, lacking, is_on, is_enabled, IsLink, IsNumbered}
 use Rattle.facts.proofs.Members.{in_one, in_rules}
 

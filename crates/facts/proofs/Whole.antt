@@ -7,15 +7,17 @@ use Rattle.std.proofs.lemmas.List.Elements.{Contains-get_or}
 use Rattle.std.proofs.lemmas.Option.{slice_get_within, same_Some}
 use Rattle.std.proofs.lemmas.Result.{IfOk-weaker}
 use Rattle.facts.specs.declared.rule.Rule.{Rule}
-use Rattle.facts.specs.Chains.{has, IsGiven, AreBelow}
+use Rattle.facts.specs.inner.Chains.{has, IsGiven, AreBelow}
 use Rattle.model.specs.Summary.{Summary, Dependency, Table, has_feature}
 use Rattle.model.specs.Facts.{Fact, here, on, enabled}
 use Rattle.model.specs.Facts.Holds.{starts}
-use Rattle.facts.specs.Graphs.{NodeView, brings_if, starts_if, starts_at, IsFactOf, LacksFeature, IsGraph, flag_at}
-use Rattle.facts.specs.Graphs.{flag_in}
-use Rattle.facts.specs.FactNumbers.{LinkView, FactNumbersView, unmarked_for, flags_of, flags_of_all, AreNumberedFrom}
-use Rattle.facts.specs.RuleLists.{number_on, all_rules, here_flags, lacks_flags, enabled_flags}
-use Rattle.facts.specs.Answers.{AreGivenBy}
+use Rattle.facts.specs.inner.Graphs.{NodeView, brings_if, starts_if, starts_at, IsFactOf, LacksFeature, IsGraph}
+use Rattle.facts.specs.inner.Graphs.{flag_at}
+use Rattle.facts.specs.inner.Graphs.{flag_in}
+use Rattle.facts.specs.inner.FactNumbers.{LinkView, FactNumbersView, unmarked_for, flags_of, flags_of_all}
+use Rattle.facts.specs.inner.FactNumbers.{AreNumberedFrom}
+use Rattle.facts.specs.inner.RuleLists.{number_on, all_rules, here_flags, lacks_flags, enabled_flags}
+use Rattle.facts.specs.inner.Answers.{AreGivenBy}
 use Rattle.facts.specs.declared.facts.Facts.{Facts}
 use Rattle.facts.proofs.Numbers.{Mark, is_here, lacking, is_on, is_enabled, on_marks, enabled_marks, block, marks_from}
 use Rattle.facts.proofs.Numbers.{IsNumbered, numbered}

@@ -5,10 +5,10 @@ use Rattle.std.proofs.lemmas.List.{length-append}
 use Rattle.std.proofs.lemmas.List.Elements.{All-contains, Contains-get_or, Contains-append_left, Contains-push}
 use Rattle.std.proofs.lemmas.List.Elements.{Contains-push_cases}
 use Rattle.facts.specs.declared.rule.Rule.{Rule}
-use Rattle.facts.specs.Chains.{has, IsGiven, AreBelow}
-use Rattle.facts.specs.Chains.IsGiven.{begins, follows}
-use Rattle.facts.specs.Lists.{rules_at, index_of}
-use Rattle.facts.specs.Worklists.{IsBelow, unmarked, is_ready, Marks, Grows, IsSound, Waits, Follows, Worked}
+use Rattle.facts.specs.inner.Chains.{has, IsGiven, AreBelow}
+use Rattle.facts.specs.inner.Chains.IsGiven.{begins, follows}
+use Rattle.facts.specs.inner.Lists.{rules_at, index_of}
+use Rattle.facts.specs.inner.Worklists.{IsBelow, unmarked, is_ready, Marks, Grows, IsSound, Waits, Follows, Worked}
 use Rattle.facts.proofs.ListLemmas.{in_none, index_has, index_within}
 
 -- what is given from what is given is given

@@ -5,8 +5,8 @@ use Rattle.std.specs.List.{AllPairs}
 use Rattle.model.specs.Content.{Package, Content, Problem, is_root}
 use Rattle.model.specs.WellFormed.{IsContent}
 use Rattle.model.specs.Vertices.{Owner}
-use Rattle.model.specs.ContentOf.{Kept, package_of}
-use Rattle.facts.specs.Graphs.{NodeView, flag_at, flag_in, target_at}
+use Rattle.model.specs.inner.ContentOf.{Kept, package_of}
+use Rattle.facts.specs.inner.Graphs.{NodeView, flag_at, flag_in, target_at}
 
 -- the root has no checksum
 abbrev pub HasBareRoot : Problem → Content → Type 0

@@ -5,7 +5,7 @@ use Rattle.model.specs.Facts.{Holds, here}
 use Rattle.model.specs.Content.{Content, Problem, summary_at}
 use Rattle.model.specs.Selection.{HasTarget, IsRootAt}
 use Rattle.model.specs.Vertices.{State, Vertex, absent}
-use Rattle.model.specs.Assignment.{Assigns}
+use Rattle.model.specs.inner.Assignment.{Assigns}
 
 -- the root alone brings each package: none is here only since packages that hold one another count from the start
 abbrev pub IsBrought : Problem → Content → Type 0

@@ -1,13 +1,5 @@
 pub use Rattle.model.specs.Facts
-pub mod Graphs
-pub mod ByName
-pub mod FactNumbers
-pub mod RuleLists
-pub mod Answers
-pub mod Chains
-pub mod Lists
-pub mod Worklists
-pub use Rattle.model.specs.Search
-pub mod Nodes
+pub use Rattle.model.specs.inner.Search
 pub mod Built
 pub mod Followed
+pub mod inner

@@ -12,8 +12,8 @@
 //! it is marked and nothing that isn't given.
 
 ghost use Rattle.std.specs.Prelude.{◌≡◌, ◌↔◌, ℕ, true, cond, length, slice_set, OnOk, IfOk};
-ghost use Rattle.facts.specs.Chains.{has, IsGiven, AreBelow};
-ghost use Rattle.facts.specs.Worklists.{Follows, Grows, IsBelow, IsSound, Marks, Waits, is_ready};
+ghost use Rattle.facts.specs.inner.Chains.{has, IsGiven, AreBelow};
+ghost use Rattle.facts.specs.inner.Worklists.{Follows, Grows, IsBelow, IsSound, Marks, Waits, is_ready};
 
 use crate::lists::{rules_at, rules_by_fact};
 use crate::rule::Rule;

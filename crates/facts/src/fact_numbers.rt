@@ -2,7 +2,7 @@
 
 ghost use Rattle.std.specs.Prelude.{◌+◌, ◌<◌, ◌^◌, length};
 ghost use Rattle.features.specs.Views.{brings_view};
-ghost use Rattle.facts.specs.ByName.{AreByName};
+ghost use Rattle.facts.specs.inner.ByName.{AreByName};
 
 use features::{Dependency, Summary};
 

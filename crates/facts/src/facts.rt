@@ -2,11 +2,11 @@
 
 ghost use Rattle.std.specs.Prelude.{◌≡◌, ◌↔◌, ℕ, true, length, map, IfOk};
 ghost use Rattle.model.specs.Facts.{here, enabled};
-ghost use Rattle.facts.specs.Chains.{has, AreBelow};
-ghost use Rattle.facts.specs.Answers.{AreGivenBy};
-ghost use Rattle.facts.specs.Graphs.{node_views, flag_at, flag_in, IsFactOf, LacksFeature, IsGraph};
-ghost use Rattle.facts.specs.FactNumbers.{link_views, numbers_view, numbers_views};
-ghost use Rattle.facts.specs.RuleLists.{here_flags, lacks_flags, enabled_flags, link_flags};
+ghost use Rattle.facts.specs.inner.Chains.{has, AreBelow};
+ghost use Rattle.facts.specs.inner.Answers.{AreGivenBy};
+ghost use Rattle.facts.specs.inner.Graphs.{node_views, flag_at, flag_in, IsFactOf, LacksFeature, IsGraph};
+ghost use Rattle.facts.specs.inner.FactNumbers.{link_views, numbers_view, numbers_views};
+ghost use Rattle.facts.specs.inner.RuleLists.{here_flags, lacks_flags, enabled_flags, link_flags};
 
 use crate::closing::close;
 use crate::fact_numbers::{FactNumbers, Link};

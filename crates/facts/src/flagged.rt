@@ -1,7 +1,7 @@
 //! Flags at places.
 
 ghost use Rattle.std.specs.Prelude.{◌≡◌, [], map, slice_get, unwrap_or};
-ghost use Rattle.facts.specs.Graphs.{flag_at};
+ghost use Rattle.facts.specs.inner.Graphs.{flag_at};
 
 /// Whether there is a flag at a place.
 pub fn flag(flags: &[bool], at: usize) -> bool

@@ -1,9 +1,9 @@
 //! The rules by the facts that they need.
 
 ghost use Rattle.std.specs.Prelude.{◌≡◌, ◌<◌, length, OnOk, IfOk};
-ghost use Rattle.facts.specs.Chains.{AreBelow};
-ghost use Rattle.facts.specs.Worklists.{IsBelow};
-ghost use Rattle.facts.specs.Lists.{rule_lists, rules_at, no_lists, put_at, put_both, index_of};
+ghost use Rattle.facts.specs.inner.Chains.{AreBelow};
+ghost use Rattle.facts.specs.inner.Worklists.{IsBelow};
+ghost use Rattle.facts.specs.inner.Lists.{rule_lists, rules_at, no_lists, put_at, put_both, index_of};
 
 use crate::rule::Rule;
 use std::alloc::{AllocError, Global};

@@ -3,11 +3,11 @@
 ghost use Rattle.std.specs.Prelude.{◌≡◌, ◌++◌, ℕ, List, Some, length, map, OnOk, IfOk};
 ghost use Rattle.model.specs.Order.{text_cmp};
 ghost use Rattle.features.specs.Views.{dependency_views, brings_view};
-ghost use Rattle.facts.specs.Graphs.{node_view, node_views, target_if};
-ghost use Rattle.facts.specs.ByName.{AreByName, name_of};
-ghost use Rattle.facts.specs.FactNumbers.{link_views, links_from};
-ghost use Rattle.facts.specs.FactNumbers.{links_called, unmarked_for, flags_of, flags_of_all, numbers_view};
-ghost use Rattle.facts.specs.FactNumbers.{numbers_views, IsNumberedFrom, AreNumberedFrom};
+ghost use Rattle.facts.specs.inner.Graphs.{node_view, node_views, target_if};
+ghost use Rattle.facts.specs.inner.ByName.{AreByName, name_of};
+ghost use Rattle.facts.specs.inner.FactNumbers.{link_views, links_from};
+ghost use Rattle.facts.specs.inner.FactNumbers.{links_called, unmarked_for, flags_of, flags_of_all, numbers_view};
+ghost use Rattle.facts.specs.inner.FactNumbers.{numbers_views, IsNumberedFrom, AreNumberedFrom};
 
 use crate::fact_numbers::{FactNumbers, Link};
 use crate::node::Node;

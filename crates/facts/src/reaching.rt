@@ -11,15 +11,15 @@
 
 ghost use Rattle.std.specs.Prelude.{◌≡◌, ℕ, Bool, List};
 ghost use Rattle.model.specs.Content.{Candidate, Content, Problem};
-ghost use Rattle.model.specs.ContentOf.{AreKept, Kept};
-ghost use Rattle.model.specs.Search.{IsUnbroken, LeadsTo};
+ghost use Rattle.model.specs.inner.ContentOf.{AreKept, Kept};
+ghost use Rattle.model.specs.inner.Search.{IsUnbroken, LeadsTo};
 ghost use Rattle.model.specs.Selection.{IsValidSelection};
 ghost use Rattle.model.specs.Vertices.{Owner, State, Vertex};
 ghost use Rattle.model.specs.WellFormed.{IsCatalogue};
 ghost use Rattle.manifest.specs.Manifests.{root_asks};
-ghost use Rattle.facts.specs.Graphs.{IsGraph, NodeView};
+ghost use Rattle.facts.specs.inner.Graphs.{IsGraph, NodeView};
 ghost use Rattle.facts.specs.Built.{AreFound, HasBareRoot, IsBuilt};
-ghost use Rattle.facts.specs.Nodes.{AreFlags, AreMet};
+ghost use Rattle.facts.specs.inner.Nodes.{AreFlags, AreMet};
 
 /// Packages with where their dependencies lead in an assignment are a graph: the facts can be found over them.
 pub fn packages_are_a_graph()

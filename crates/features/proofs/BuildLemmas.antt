@@ -11,9 +11,9 @@ use Rattle.model.specs.Tables.{DepName, TableFault, no_such_feature, no_such_dep
 use Rattle.model.specs.Tables.{is_implicit, default_feature, implicit_entries, with_row, with_implicit, with_default}
 use Rattle.model.specs.Tables.{table_of}
 use Rattle.model.proofs.Tables.{seen-insert_entry}
-use Rattle.features.specs.Drafts.{or_fault, implicit_rows, rows_or_fault, with_rows}
+use Rattle.features.specs.inner.Drafts.{or_fault, implicit_rows, rows_or_fault, with_rows}
 use Rattle.features.specs.EntryViews.{entry_views}
-use Rattle.features.specs.Tables.{built, rows_of, table_or_fault}
+use Rattle.features.specs.inner.Tables.{built, rows_of, table_or_fault}
 use Rattle.features.specs.declared.entry.Entry.{Entry}
 
 -- a map with one more feature is a table with one more row

@@ -17,10 +17,10 @@ use Rattle.model.specs.Summary as model
 use Rattle.model.specs.Tables.{DepName, TableFault, first_with, has_dep_entry, has_dependency, has_fault, is_dep}
 use Rattle.model.specs.Tables.{is_optional, no_such_feature, no_such_dependency, not_optional}
 use Rattle.model.proofs.Same.{both}
-use Rattle.features.specs.Drafts.{faultless, is_well}
-use Rattle.features.specs.Texts.{has_text, borrowed_cmp}
+use Rattle.features.specs.inner.Drafts.{faultless, is_well}
+use Rattle.features.specs.inner.Texts.{has_text, borrowed_cmp}
 use Rattle.features.specs.EntryViews.{entry_view, entry_views}
-use Rattle.features.specs.Tables.{rows_of}
+use Rattle.features.specs.inner.Tables.{rows_of}
 use Rattle.features.specs.declared.entry.Entry.{Entry}
 
 pub contains-has : (d : List ℕ) (ks : List (Bor (List ℕ)))

@@ -23,8 +23,8 @@ use Rattle.model.specs.Tables.{Before, IsInOrder}
 use Rattle.model.proofs.Same.{text-refl, text-same}
 use Rattle.model.proofs.Lists.{all_none, all_cons, all_get, pairs_all, pairs_rest}
 use Rattle.features.specs.EntryViews.{entry_views}
-use Rattle.features.specs.Places.{place_of}
-use Rattle.features.specs.Tables.{AreRising, rows_of}
+use Rattle.features.specs.inner.Places.{place_of}
+use Rattle.features.specs.inner.Tables.{AreRising, rows_of}
 use Rattle.features.specs.declared.entry.Entry.{Entry}
 use Rattle.features.proofs.RowLemmas.{row_lacking}
 use Rattle.features.proofs.TableLemmas.{entries_at-rows_of}

@@ -20,7 +20,7 @@ use Rattle.std.proofs.lemmas.Map.Lookups.{exact_bytes}
 use Rattle.std.proofs.lemmas.Map.Made.{update_all_none}
 use Rattle.std.proofs.lemmas.Option.{slice_get-get_or, get_or_from_slice_get, slice_get_within}
 use Rattle.model.specs.Order.{text_cmp}
-use Rattle.features.specs.Tables.{AreRising, rows_of}
+use Rattle.features.specs.inner.Tables.{AreRising, rows_of}
 use Rattle.features.specs.declared.entry.Entry.{Entry}
 
 abbrev Row : Type 0

@@ -5,7 +5,7 @@ use Rattle.std.specs.BTreeMap.{is_at}
 use Rattle.std.specs.Cmp.Lexicographic.{slice_cmp, texts_ties}
 use Rattle.std.specs.Map.{lookup}
 use Rattle.std.specs.Ordering.{nat_cmp}
-use Rattle.features.specs.TextMaps.{at_text}
+use Rattle.features.specs.inner.TextMaps.{at_text}
 
 pub at_text-get : {X : Type 0} (d : List ℕ) (es : List (Bor (List ℕ) × X))
     → lookup (is_at (λ k. slice_cmp nat_cmp d k.now)) es ≡ at_text es d

@@ -4,7 +4,8 @@ use Rattle.std.proofs.Common.{Ordering, Less, Equal, Greater, All, refl, subst, 
 use Rattle.std.specs.Ordering.{match_ordering}
 use Rattle.model.specs.Order.{text_cmp}
 use Rattle.model.specs.Summary.{Entry, Table, has_feature, dependency, dependency_feature, weak_feature}
-use Rattle.model.specs.Tables.{DepName, Written, default_feature, is_implicit, implicit_entries, with_row, with_implicit}
+use Rattle.model.specs.Tables.{DepName, Written, default_feature, is_implicit, implicit_entries, with_row}
+use Rattle.model.specs.Tables.{with_implicit}
 use Rattle.model.specs.Tables.{table_of}
 use Rattle.model.proofs.Lists.{all_none, all_cons, all_first, all_rest}
 use Rattle.model.proofs.Same.{both}
@@ -12,7 +13,7 @@ use Rattle.model.proofs.Tables.{built}
 use Rattle.features.specs.Names.{is_package_name, is_feature_name}
 use Rattle.features.specs.Entries.{after_text, before_text, around, feature_of, dependency_of, asked_of, weak_or}
 use Rattle.features.specs.Entries.{asking_or, dependency_or, entry_of}
-use Rattle.features.specs.Valid.{IsPackageName, IsFeatureName, IsValidEntry, IsValidRow}
+use Rattle.features.specs.inner.Valid.{IsPackageName, IsFeatureName, IsValidEntry, IsValidRow}
 use Rattle.features.proofs.NameLemmas.{feature_name-package}
 
 -- ---- entries

@@ -1,14 +1,7 @@
 pub use Rattle.model.specs.Outcome
 pub use Rattle.model.specs.Summary
 pub mod Names
-pub mod NameTexts
 pub mod Entries
 pub mod EntryViews
-pub mod Tables
-pub mod Places
-pub mod Texts
-pub mod Drafts
-pub mod DraftViews
 pub mod Views
-pub mod Valid
-pub mod TextMaps
+pub mod inner

@@ -9,10 +9,10 @@ ghost use Rattle.model.specs.Outcome.{Gives};
 ghost use Rattle.model.specs.Summary.{has_feature, same_text};
 ghost use Rattle.model.specs.Tables.{has_dep_entry, has_dependency, has_fault, first_with, is_dep, implicit_entries};
 ghost use Rattle.model.specs.Tables.{is_feature, is_implicit, is_optional};
-ghost use Rattle.features.specs.Drafts.{faultless, implicit_rows, is_well, lack_view, rows_or_fault, without};
-ghost use Rattle.features.specs.Texts.{has_text, HasThose, texts_in};
+ghost use Rattle.features.specs.inner.Drafts.{faultless, implicit_rows, is_well, lack_view, rows_or_fault, without};
+ghost use Rattle.features.specs.inner.Texts.{has_text, HasThose, texts_in};
 ghost use Rattle.features.specs.EntryViews.{entry_view, entry_views};
-ghost use Rattle.features.specs.Tables.{AreRising, dep_names_view, rows_of, table_wants_memory};
+ghost use Rattle.features.specs.inner.Tables.{AreRising, dep_names_view, rows_of, table_wants_memory};
 
 use crate::entry::Entry;
 use crate::feature_name::FeatureName;
@@ -100,7 +100,7 @@ fn put_entered<'a>(names: &mut Texts<'a>, entries: &'a [Entry]) -> Result<(), Al
 }
 
 impl<'a> Draft<'a> {
-    ghost use Rattle.features.specs.DraftViews.{names_in, written_in};
+    ghost use Rattle.features.specs.inner.DraftViews.{names_in, written_in};
 
     fn of(
         alloc: Global,

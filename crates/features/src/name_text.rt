@@ -1,7 +1,7 @@
 //! The text of a name, which lies in the name itself where it is short.
 
 ghost use Rattle.std.specs.Prelude.{◌≡◌, ◌≤◌, IfOk, IsOk, length};
-ghost use Rattle.features.specs.NameTexts.{text_bytes};
+ghost use Rattle.features.specs.inner.NameTexts.{text_bytes};
 
 use arrayvec::ArrayString;
 use std::alloc::{AllocError, Global};

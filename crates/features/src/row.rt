@@ -2,7 +2,7 @@
 
 ghost use Rattle.std.specs.Prelude.{◌≡◌, IfOk};
 ghost use Rattle.features.specs.EntryViews.{entry_views};
-ghost use Rattle.features.specs.Tables.{rows_of};
+ghost use Rattle.features.specs.inner.Tables.{rows_of};
 
 use crate::entry::Entry;
 use crate::feature_name::FeatureName;

@@ -5,9 +5,9 @@ ghost use Rattle.std.specs.BTreeMap.{is_at, insert_entry, IsFromIterResult};
 ghost use Rattle.std.specs.Map.{lookup};
 ghost use Rattle.model.specs.Order.{text_cmp};
 ghost use Rattle.model.specs.Summary.{has_feature};
-ghost use Rattle.features.specs.Drafts.{with_rows};
-ghost use Rattle.features.specs.Places.{place_of};
-ghost use Rattle.features.specs.Tables.{AreRising, rows_of};
+ghost use Rattle.features.specs.inner.Drafts.{with_rows};
+ghost use Rattle.features.specs.inner.Places.{place_of};
+ghost use Rattle.features.specs.inner.Tables.{AreRising, rows_of};
 
 use crate::entry::Entry;
 use crate::feature_name::FeatureName;

@@ -5,8 +5,8 @@ ghost use Rattle.std.specs.Option.{is_none};
 ghost use Rattle.model.specs.Outcome.{Gives};
 ghost use Rattle.model.specs.Summary.{entries_at, has_feature};
 ghost use Rattle.model.specs.Tables.{IsInOrder, with_default};
-ghost use Rattle.features.specs.Places.{place_of};
-ghost use Rattle.features.specs.Tables.{AreRising, dep_names_view, rows_of, table_wants_memory, built};
+ghost use Rattle.features.specs.inner.Places.{place_of};
+ghost use Rattle.features.specs.inner.Tables.{AreRising, dep_names_view, rows_of, table_wants_memory, built};
 ghost use Rattle.features.specs.EntryViews.{entry_views};
 
 use crate::draft::implicit_rows;
@@ -65,7 +65,7 @@ pub struct FeatureTable {
 
 impl Model for FeatureTable {
     ghost use Rattle.model.specs.Summary.{Table};
-    ghost use Rattle.features.specs.Tables.{AreRising, rows_of};
+    ghost use Rattle.features.specs.inner.Tables.{AreRising, rows_of};
 
     ghost Value = { Table };
 

@@ -2,7 +2,7 @@
 
 ghost use Rattle.std.specs.Prelude.{◌≡◌, ◌||◌, [], ℕ, List, OnOk};
 ghost use Rattle.model.specs.Summary.{same_text};
-ghost use Rattle.features.specs.Texts.{has_text, texts_in};
+ghost use Rattle.features.specs.inner.Texts.{has_text, texts_in};
 
 use std::alloc::{AllocError, Global};
 use std::collections::BTreeSet;

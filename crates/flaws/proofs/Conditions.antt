@@ -17,8 +17,8 @@ use Rattle.manifest.specs.Manifests.{ManifestView}
 use Rattle.catalogue.specs.Problems.{problem_in}
 use Rattle.catalogue.specs.Stores.{CatalogueView}
 use Rattle.selection.proofs.Judging.{featured_is}
-use Rattle.flaws.specs.Reasons.{why_none}
-use Rattle.flaws.specs.Flaws.{is_flawless, why_at, IsUnmet, IsSurplus, IsTwin, AreFlaws}
+use Rattle.flaws.specs.inner.Reasons.{why_none}
+use Rattle.flaws.specs.inner.Flaws.{is_flawless, why_at, IsUnmet, IsSurplus, IsTwin, AreFlaws}
 use Rattle.flaws.specs.declared.flawed.Flawed.{Flawed}
 use Rattle.flaws.specs.declared.no_candidate.NoCandidate.{NoCandidate}
 use Rattle.flaws.proofs.Reasons.{why_decides}

@@ -13,16 +13,16 @@ use Rattle.model.specs.Verdict.{IsFreeOf, two_in_class}
 use Rattle.manifest.specs.Manifests.{ManifestView}
 use Rattle.catalogue.specs.Problems.{problem_in}
 use Rattle.catalogue.specs.Stores.{CatalogueView}
-use Rattle.facts.specs.Graphs.{flag_at}
+use Rattle.facts.specs.inner.Graphs.{flag_at}
 use Rattle.facts.specs.declared.node.Node.{Node}
-use Rattle.lockfile.specs.Views.{package_view}
+use Rattle.lockfile.specs.inner.Views.{package_view}
 use Rattle.lockfile.specs.declared.package.Package as code
-use Rattle.selection.specs.Graphs.{IsOnlyRoot, targets_in}
-use Rattle.selection.specs.Places.{AreFindings, content_in, is_missing, IsLedTo, Lacks}
+use Rattle.selection.specs.inner.Graphs.{IsOnlyRoot, targets_in}
+use Rattle.selection.specs.inner.Places.{AreFindings, content_in, is_missing, IsLedTo, Lacks}
 use Rattle.selection.specs.declared.findings.Findings.{Findings}
 use Rattle.selection.proofs.Judging.{targets_are}
-use Rattle.flaws.specs.Reasons.{why_none}
-use Rattle.flaws.specs.Flaws.{AreFlaws, IsSurplus, IsTwin, IsUnmet, why_at}
+use Rattle.flaws.specs.inner.Reasons.{why_none}
+use Rattle.flaws.specs.inner.Flaws.{AreFlaws, IsSurplus, IsTwin, IsUnmet, why_at}
 use Rattle.flaws.specs.declared.flawed.Flawed.{Flawed}
 use Rattle.flaws.proofs.Listed.{unmet_is, surplus_is, others_are}
 

@@ -9,11 +9,11 @@ use Rattle.model.specs.Content.{Package, Content, Problem, summary_of, last_serv
 use Rattle.model.specs.Selection.{IsFact, IsTarget}
 use Rattle.model.proofs.Lists.{in_filter, to_filter}
 use Rattle.model.proofs.Same.{both}
-use Rattle.facts.specs.Graphs.{flag_at}
-use Rattle.selection.specs.Graphs.{targets_in}
-use Rattle.selection.specs.Places.{is_missing, IsLedTo}
+use Rattle.facts.specs.inner.Graphs.{flag_at}
+use Rattle.selection.specs.inner.Graphs.{targets_in}
+use Rattle.selection.specs.inner.Places.{is_missing, IsLedTo}
 use Rattle.selection.proofs.Judging.{its_target, its_dependency, target_here, led_to_target, target_led_to}
-use Rattle.flaws.specs.Flaws.{IsUnmet, IsSurplus}
+use Rattle.flaws.specs.inner.Flaws.{IsUnmet, IsSurplus}
 use Rattle.flaws.proofs.Elements.{in_range}
 
 -- a dependency that is there and has no target

@@ -8,7 +8,7 @@ use Rattle.manifest.specs.Manifests.{ManifestView}
 use Rattle.catalogue.specs.Problems.{problem_in}
 use Rattle.catalogue.specs.Stores.{CatalogueView, candidates_at, record_at, rows_by_name}
 use Rattle.selection.proofs.Lookups.{of_source}
-use Rattle.flaws.specs.Reasons.{why_sum, why_record, why_source, why_none}
+use Rattle.flaws.specs.inner.Reasons.{why_sum, why_record, why_source, why_none}
 use Rattle.flaws.specs.declared.no_candidate.NoCandidate.TheVariants.{OtherSource, OtherChecksum}
 
 by_sum : (sum : Option (List ℕ)) (r : Record)

@@ -8,7 +8,7 @@ use Rattle.model.specs.Content.{Content}
 use Rattle.model.specs.Order.{package_cmp}
 use Rattle.model.specs.WellFormed.{IsContent}
 use Rattle.model.proofs.Mapped.{pairs_map}
-use Rattle.flaws.specs.Unsummed.{without_checksum}
+use Rattle.flaws.specs.inner.Unsummed.{without_checksum}
 
 pub still_content : (content : Content) → IsContent content → IsContent (map without_checksum content)
 still_content content formed = record {

@@ -16,7 +16,7 @@ use Rattle.model.proofs.Verdicts.{valid_iff}
 use Rattle.manifest.specs.Manifests.{ManifestView}
 use Rattle.catalogue.specs.Problems.{problem_in}
 use Rattle.catalogue.specs.Stores.{CatalogueView}
-use Rattle.flaws.specs.Flaws.{is_flawless, AreFlaws, IsToldBelow, AreToldBelow, AreTold}
+use Rattle.flaws.specs.inner.Flaws.{is_flawless, AreFlaws, IsToldBelow, AreToldBelow, AreTold}
 use Rattle.flaws.specs.declared.flawed.Flawed.{Flawed}
 use Rattle.flaws.proofs.Conditions.{flawless_free, free_flawless}
 

@@ -6,10 +6,10 @@ use Rattle.model.specs.Selection.{class_of}
 use Rattle.model.specs.Vertices.{same_class}
 use Rattle.model.specs.WellFormed.{IsContent}
 use Rattle.model.proofs.Same.{both, text-same, class-same}
-use Rattle.selection.specs.Graphs.{IsOnlyRoot}
-use Rattle.selection.specs.Names.{is_like}
+use Rattle.selection.specs.inner.Graphs.{IsOnlyRoot}
+use Rattle.selection.specs.inner.Names.{is_like}
 use Rattle.selection.proofs.Seconds.{is_other}
-use Rattle.flaws.specs.Flaws.{IsTwin}
+use Rattle.flaws.specs.inner.Flaws.{IsTwin}
 
 pub twin_is : (content : Content) → IsContent content → (q : Problem) (root : ℕ) → IsOnlyRoot q content root
     → (n b : ℕ) (p s : Package)

@@ -1,7 +1,7 @@
 //! What is wrong with one package of a lock.
 
 ghost use Rattle.std.specs.Prelude.{◌≡◌};
-ghost use Rattle.flaws.specs.Flaws.{is_flawless};
+ghost use Rattle.flaws.specs.inner.Flaws.{is_flawless};
 
 use crate::no_candidate::NoCandidate;
 

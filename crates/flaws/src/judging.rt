@@ -5,12 +5,12 @@ ghost use Rattle.model.specs.Content.{Problem};
 ghost use Rattle.model.specs.Selection.{IsValidSelection};
 ghost use Rattle.model.specs.Verdict.{IsFreeOf, two_in_class};
 ghost use Rattle.model.specs.WellFormed.{IsContent};
-ghost use Rattle.lockfile.specs.Views.{package_views};
+ghost use Rattle.lockfile.specs.inner.Views.{package_views};
 ghost use Rattle.manifest.specs.Manifests.{ManifestView};
 ghost use Rattle.catalogue.specs.Problems.{problem_in};
-ghost use Rattle.selection.specs.Graphs.{HasNoRoot, IsOnlyRoot};
-ghost use Rattle.selection.specs.Places.{AreFindings, content_in};
-ghost use Rattle.flaws.specs.Flaws.{AreFlaws, AreTold, IsTwin, is_flawless};
+ghost use Rattle.selection.specs.inner.Graphs.{HasNoRoot, IsOnlyRoot};
+ghost use Rattle.selection.specs.inner.Places.{AreFindings, content_in};
+ghost use Rattle.flaws.specs.inner.Flaws.{AreFlaws, AreTold, IsTwin, is_flawless};
 
 use crate::flawed::{Flawed, is_flawless};
 use crate::lists::{surplus_of, unmet_of};

@@ -8,8 +8,8 @@
 //! What is told is there as a value too (`look_for`, `nothing_fits`), for who tells it otherwise than in sentences; and
 //! the file of a name (`file_of`), for who tells why a version of a lock isn't there.
 //!
-//! A layer above may rely on this: where no candidate is matched, the reason is the one that `specs/Lacks` gives for
-//! the lines of the file, and where one is matched, no other is told than a feature that is lacking. Of what the folder
+//! A layer above may rely on this: where no candidate is matched, the reason is the one that `specs/inner/Lacks` gives
+//! for the lines of the file, and where one is matched, no other is told than a feature that is lacking. Of what the folder
 //! is asked and of the sentences nothing is stated.
 
 ghost use Rattle.std.specs.Prelude.{◌≡◌, ◌⊎◌, ◌&&◌, true, false, Some, None, option_copied, option_map};
@@ -18,9 +18,9 @@ ghost use Rattle.semver.specs.EvalViews.{matches_views};
 ghost use Rattle.semver.specs.Identifiers.{parts_of};
 ghost use Rattle.features.specs.Views.{requirement_view};
 ghost use Rattle.catalogue.specs.Stores.{candidates_at};
-ghost use Rattle.flaws.specs.Lacks.{has_none, is_held_back, is_met, lack_in, lack_among, matches_yanked, release};
-ghost use Rattle.flaws.specs.Lacks.{would_match};
-ghost use Rattle.flaws.specs.Views.{record_views};
+ghost use Rattle.flaws.specs.inner.Lacks.{has_none, is_held_back, is_met, lack_in, lack_among, matches_yanked, release};
+ghost use Rattle.flaws.specs.inner.Lacks.{would_match};
+ghost use Rattle.flaws.specs.inner.Views.{record_views};
 
 use catalogue::Catalogue;
 use classes::{is_matched, some_matched};

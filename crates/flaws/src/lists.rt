@@ -4,8 +4,8 @@ ghost use Rattle.std.specs.Prelude.{◌≡◌, ◌↔◌, ℕ, Bool, true, not, 
 ghost use Rattle.std.specs.BTreeSet.{contains};
 ghost use Rattle.std.specs.List.{filter, range_with_len};
 ghost use Rattle.std.specs.Ordering.{nat_cmp};
-ghost use Rattle.facts.specs.Graphs.{flag_at};
-ghost use Rattle.selection.specs.Places.{IsLedTo, is_missing};
+ghost use Rattle.facts.specs.inner.Graphs.{flag_at};
+ghost use Rattle.selection.specs.inner.Places.{IsLedTo, is_missing};
 
 use selection::{lacks_target, places_led_to};
 use std::alloc::{AllocError, Global};

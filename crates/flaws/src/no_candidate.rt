@@ -3,8 +3,8 @@
 ghost use Rattle.std.specs.Prelude.{◌≡◌, None, option_map, if◌then◌else◌};
 ghost use Rattle.semver.specs.Identifiers.{parts_of};
 ghost use Rattle.catalogue.specs.Stores.{candidates_at, record_at};
-ghost use Rattle.lockfile.specs.Views.{package_view};
-ghost use Rattle.flaws.specs.Reasons.{why_none, why_record, why_sum};
+ghost use Rattle.lockfile.specs.inner.Views.{package_view};
+ghost use Rattle.flaws.specs.inner.Reasons.{why_none, why_record, why_sum};
 
 use catalogue::{Catalogue, Checksum};
 use lockfile::Package;

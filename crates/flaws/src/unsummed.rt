@@ -1,8 +1,8 @@
 //! A lock without its checksums.
 
 ghost use Rattle.std.specs.Prelude.{◌≡◌, IfOk, map, option_map, string_bytes};
-ghost use Rattle.lockfile.specs.Views.{package_view, package_views};
-ghost use Rattle.flaws.specs.Unsummed.{without_checksum};
+ghost use Rattle.lockfile.specs.inner.Views.{package_view, package_views};
+ghost use Rattle.flaws.specs.inner.Unsummed.{without_checksum};
 
 use lockfile::{LockContent, Package};
 use std::alloc::{AllocError, Global};

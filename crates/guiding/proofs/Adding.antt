@@ -21,23 +21,23 @@ use Rattle.model.specs.Derivation.{states_at}
 use Rattle.model.specs.Vertices.{State, Vertex, space}
 use Rattle.refutations.specs.Causes.{Cause, kind_of, terms_of_cause}
 use Rattle.refutations.proofs.CauseLaws.{cause_instance}
-use Rattle.numbering.specs.Assignments.{state_at}
+use Rattle.numbering.specs.inner.Assignments.{state_at}
 use Rattle.numbering.specs.Numberings.{Numbering, Says, members_at}
 use Rattle.numbering.specs.Pairs.{AreGiven, AreOfPair, Given, IsGivenAt, Pair}
 use Rattle.numbering.proofs.Needing.{still_at}
 use Rattle.model.proofs.Lists.{in_cons, in_none, in_first, in_rest}
-use Rattle.guiding.specs.Searching.{AreMore, HasSpaces, IsOfNew, IsSeen}
-use Rattle.guiding.specs.Turning.{IsAdding}
-use Rattle.guiding.specs.Following as following
+use Rattle.guiding.specs.inner.Searching.{AreMore, HasSpaces, IsOfNew, IsSeen}
+use Rattle.guiding.specs.inner.Turning.{IsAdding}
+use Rattle.guiding.specs.inner.Following as following
 use Rattle.guiding.proofs.Guides.{lone_one, spaces_wider}
 use Rattle.guiding.proofs.Seen.{seen_wider}
-use Rattle.guiding.specs.Guides.{AreAll, AreFirst, AreStored, CanAsk, EncodedView, GoesOn, IsAsking, IsOfInstance}
-use Rattle.guiding.specs.Guides.{IsPut, as_entry}
-use Rattle.guiding.specs.Guides.{asked_at, asked_of, on_trail, late_with, left_with, with_given}
+use Rattle.guiding.specs.inner.Guides.{AreAll, AreFirst, AreStored, CanAsk, EncodedView, GoesOn, IsAsking, IsOfInstance}
+use Rattle.guiding.specs.inner.Guides.{IsPut, as_entry}
+use Rattle.guiding.specs.inner.Guides.{asked_at, asked_of, on_trail, late_with, left_with, with_given}
 use Rattle.vertices.specs.Kinds.{kind_number}
-use Rattle.guiding.specs.Remaining.{open_of, spaces_of}
+use Rattle.guiding.specs.inner.Remaining.{open_of, spaces_of}
 use Rattle.guiding.proofs.FirstTerms.{first_only}
-use Rattle.guiding.specs.Going.{added_grown, added_on, says_on}
+use Rattle.guiding.specs.inner.Going.{added_grown, added_on, says_on}
 use Rattle.guiding.proofs.Marks.{lengths_at, marked_either, marked_lengths, marked_more, marked_now}
 use Rattle.guiding.proofs.Marks.{wide_either, wide_has, wide_lengths}
 use Rattle.guiding.proofs.OnTrail.{asked_is, asked_stays, on_trail_at, on_trail_most, late_comes, there_at}
@@ -202,7 +202,7 @@ module _ {v i : ℕ} {old new : EncodedView} {t wide : TrailView} {es more : Lis
   zero_asked : (j u : ℕ) → j ≡ 0 → asked_of new.asked u j ≡ true
   zero_asked j u e = subst (λ k. asked_of new.asked u k ≡ true) (sym e) refl
 
-  pub lone : Rattle.guiding.specs.Searching.LoneAsked (length t.sets) (asked_of new.asked) wide.sets
+  pub lone : Rattle.guiding.specs.inner.Searching.LoneAsked (length t.sets) (asked_of new.asked) wide.sets
   lone u j ge within only =
       let one = lone_one (map length old.asked) a.came t wide spaced a.wider u j ge only in
       let space_is = (spaces_wider (map length old.asked) a.came t wide spaced a.wider).each u in
@@ -280,8 +280,8 @@ module _ {v i : ℕ} {old new : EncodedView} {t wide : TrailView} {es more : Lis
   asked_adding = record {
     spaces = a.came;
     wider = a.wider;
-    came = ap (λ p. Rattle.propagation.specs.Widening.sum_of a.came
-        + Rattle.guiding.specs.Remaining.late_of p (on_trail new.vertices new.asked)) a.same
+    came = ap (λ p. Rattle.propagation.specs.inner.Widening.sum_of a.came
+        + Rattle.guiding.specs.inner.Remaining.late_of p (on_trail new.vertices new.asked)) a.same
         ∙ late_comes old.problem old.vertices new.vertices old.asked new.asked a.came a.grown a.numbering a.spaces
         a.spaced a.whole lengths;
     lone = lone;

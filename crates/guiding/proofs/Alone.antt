@@ -5,7 +5,7 @@ use Rattle.std.proofs.lemmas.Bool.{false≢true}
 use Rattle.version_sets.specs.Sets.{Members, has, size}
 use Rattle.propagation.specs.Trails.{set_of}
 use Rattle.propagation.proofs.SetLemmas.{has_some}
-use Rattle.guiding.specs.Guides.{IsOpenAt, IsUnless}
+use Rattle.guiding.specs.inner.Guides.{IsOpenAt, IsUnless}
 
 pub one_member : (s : Members) (i j : ℕ) → size s ≡ 1 → has s i ≡ true → has s j ≡ true → i ≡ j
 one_member [] i j one h k = absurd (false≢true h)

@@ -6,13 +6,13 @@ use Rattle.std.proofs.lemmas.Option.{none-some, same_Some}
 use Rattle.version_sets.specs.Sets.{Members, none}
 use Rattle.model.specs.Vertices.{Vertex, space}
 use Rattle.model.proofs.Places.{some_at}
-use Rattle.numbering.specs.KnownProblem.{problem}
+use Rattle.numbering.specs.inner.KnownProblem.{problem}
 use Rattle.numbering.specs.Numberings.{Numbering}
 use Rattle.numbering.specs.declared.known_problem.KnownProblem.{KnownProblem}
 use Rattle.propagation.specs.Trails.{TrailView}
 use Rattle.propagation.proofs.Widened.{wider_again, wider_none}
-use Rattle.guiding.specs.Guides.{IsCome, IsEncoding}
-use Rattle.guiding.specs.Remaining.{spaces_of}
+use Rattle.guiding.specs.inner.Guides.{IsCome, IsEncoding}
+use Rattle.guiding.specs.inner.Remaining.{spaces_of}
 
 pub map_append : {A B : Type 0} (f : A → B) (xs ys : List A) → map f (xs ++ ys) ≡ map f xs ++ map f ys
 map_append f [] ys = refl

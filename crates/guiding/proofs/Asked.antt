@@ -12,22 +12,23 @@ use Rattle.propagation.specs.Promises.{IsTrail}
 use Rattle.model.specs.Content.{Content}
 use Rattle.model.specs.Vertices.{Vertex, space}
 use Rattle.model.specs.WellFormed.{IsCatalogue}
-use Rattle.numbering.specs.Assignments.{state_at}
-use Rattle.numbering.specs.KnownProblem.{KnowsDefault, problem}
+use Rattle.numbering.specs.inner.Assignments.{state_at}
+use Rattle.numbering.specs.inner.KnownProblem.{KnowsDefault, problem}
 use Rattle.numbering.specs.Numberings.{IsGrown, IsNumbering, Numbering}
-use Rattle.numbering.specs.CausesAt.{first_causes}
+use Rattle.numbering.specs.inner.CausesAt.{first_causes}
 use Rattle.numbering.specs.Pairs.{AreOfPair, Given, IsFirstGiven, IsGivenAt}
 use Rattle.numbering.proofs.AddLaws.{state_in}
 use Rattle.numbering.proofs.CausesLaws.{first_there}
 use Rattle.model.specs.Axioms.{IsVertex}
 use Rattle.model.proofs.Members.{element}
 use Rattle.numbering.specs.declared.known_problem.KnownProblem.{KnownProblem}
-use Rattle.guiding.specs.Searching.{HasSpaces, IsOnly, IsSeen, Pairs}
-use Rattle.guiding.specs.Searching as searching
+use Rattle.guiding.specs.inner.Searching.{HasSpaces, IsOnly, IsSeen, Pairs}
+use Rattle.guiding.specs.inner.Searching as searching
 use Rattle.guiding.proofs.Seen.{seen_all}
-use Rattle.guiding.specs.Guides.{AreAll, AreFirst, EncodedView, IsAsking, IsCome, IsEncoding, encoded_view, on_trail}
-use Rattle.guiding.specs.Guides.{marked, with_given}
-use Rattle.guiding.specs.Remaining.{spaces_of}
+use Rattle.guiding.specs.inner.Guides.{AreAll, AreFirst, EncodedView, IsAsking, IsCome, IsEncoding, encoded_view}
+use Rattle.guiding.specs.inner.Guides.{on_trail}
+use Rattle.guiding.specs.inner.Guides.{marked, with_given}
+use Rattle.guiding.specs.inner.Remaining.{spaces_of}
 use Rattle.guiding.proofs.Marks.{lengths_at, mark_lengths}
 use Rattle.guiding.proofs.OnTrail.{on_trail_at}
 

@@ -22,11 +22,11 @@ use Rattle.model.proofs.Spaces.{state_from}
 use Rattle.manifest.specs.Manifests.{ManifestView}
 use Rattle.catalogue.specs.Problems.{problem_in}
 use Rattle.catalogue.specs.Stores.{CatalogueView, candidates_at}
-use Rattle.lookups.specs.Ranges.{AreRising, is_above, is_below, is_of}
+use Rattle.lookups.specs.inner.Ranges.{AreRising, is_above, is_below, is_of}
 use Rattle.lookups.proofs.Pieces.{above_parted, apart_below, neither, parts_filtered, skipped}
 use Rattle.numbering.proofs.Stated.{versions_counted, versions_space}
 use Rattle.numbering.proofs.Tested.{states_here}
-use Rattle.guiding.specs.Found.{IsNumberOf}
+use Rattle.guiding.specs.inner.Found.{IsNumberOf}
 
 -- ---- classes
 

@@ -6,8 +6,8 @@ use Rattle.incompatibilities.specs.Stores.{EntryView, IsAxiom, entry}
 use Rattle.incompatibilities.specs.declared.origin.Origin.{Origin}
 use Rattle.incompatibilities.specs.declared.origin.Origin.TheVariants.{Axiom, Learned}
 use Rattle.propagation.specs.Promises.{most}
-use Rattle.guiding.specs.Counting.{CountsOn, HasCounted}
-use Rattle.incompatibilities.specs.Counts.{combinations, links_in}
+use Rattle.guiding.specs.inner.Counting.{CountsOn, HasCounted}
+use Rattle.incompatibilities.specs.inner.Counts.{combinations, links_in}
 
 pub combinations_append : (xs ys : List EntryView) → combinations (xs ++ ys) ≡ combinations xs + combinations ys
 combinations_append [] ys = omega arith

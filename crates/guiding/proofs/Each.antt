@@ -9,7 +9,7 @@ use Rattle.propagation.specs.Promises.{IsSound, Levels, NextLevel}
 use Rattle.propagation.proofs.LevelLemmas.{past_top}
 use Rattle.propagation.proofs.Places.{from_start, level_from, next_level}
 use Rattle.propagation.proofs.Back.{sets_long}
-use Rattle.guiding.specs.Searching.{EachFalls, IsFalling, space, space_in, start_of, sum_at, up_to}
+use Rattle.guiding.specs.inner.Searching.{EachFalls, IsFalling, space, space_in, start_of, sum_at, up_to}
 use Rattle.guiding.proofs.Ends.{deeper_falls, end_top, ends_same, falling_deeper, falling_lower, lower_falls}
 use Rattle.guiding.proofs.Ends.{start_same}
 

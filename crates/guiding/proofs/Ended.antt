@@ -7,15 +7,15 @@ use Rattle.propagation.specs.Trails.{TrailView}
 use Rattle.propagation.specs.Promises.{IsTrail}
 use Rattle.model.specs.Content.{Content, Problem}
 use Rattle.numbering.specs.Numberings.{IsNumbering}
-use Rattle.guiding.specs.Searching.{HasSpaces, Pairs}
-use Rattle.guiding.specs.Turning.{HasEnded}
-use Rattle.guiding.specs.Following as following
-use Rattle.guiding.specs.Following.{IsLeft, IsSelection}
+use Rattle.guiding.specs.inner.Searching.{HasSpaces, Pairs}
+use Rattle.guiding.specs.inner.Turning.{HasEnded}
+use Rattle.guiding.specs.inner.Following as following
+use Rattle.guiding.specs.inner.Following.{IsLeft, IsSelection}
 use Rattle.guiding.specs.declared.turns.Answer.{Answer}
 use Rattle.guiding.specs.declared.turns.Answer.TheVariants.{Selection, Unsolvable}
-use Rattle.guiding.specs.Guides.{AreStored, EncodedView, Follows, GoesOn, HasBegun, HasFound, HasSearched, IsDone}
-use Rattle.guiding.specs.Guides.{IsOfInstance, asked_of, on_trail}
-use Rattle.guiding.specs.Remaining.{spaces_of}
+use Rattle.guiding.specs.inner.Guides.{AreStored, EncodedView, Follows, GoesOn, HasBegun, HasFound, HasSearched, IsDone}
+use Rattle.guiding.specs.inner.Guides.{IsOfInstance, asked_of, on_trail}
+use Rattle.guiding.specs.inner.Remaining.{spaces_of}
 use Rattle.guiding.proofs.Following.{followed_by}
 use Rattle.guiding.proofs.Settling.{unbroken}
 

@@ -5,8 +5,8 @@ use Rattle.std.proofs.lemmas.Bool.{cases_lt}
 use Rattle.propagation.specs.Trails.{Above, StepView, TrailView, end_sets, past, sets_at, undo}
 use Rattle.propagation.proofs.Back.{back_same, put_back-append}
 use Rattle.propagation.proofs.LevelLemmas.{past_append}
-use Rattle.guiding.specs.Measures.{Falling, measure_of}
-use Rattle.guiding.specs.Searching.{IsFalling, firsts, space_in, sum_at}
+use Rattle.guiding.specs.inner.Measures.{Falling, measure_of}
+use Rattle.guiding.specs.inner.Searching.{IsFalling, firsts, space_in, sum_at}
 use Rattle.guiding.proofs.Weights.{measure_longer, measure_lower}
 
 pub above_less : (l level : ℕ) (ss : List StepView) → l ≤ level → Above level ss → Above l ss

@@ -10,7 +10,8 @@ use Rattle.incompatibilities.specs.Incompatibilities.{LiesIn, states_at, HoldsAt
 use Rattle.incompatibilities.specs.Stores.{EntryView, entry, terms_of}
 use Rattle.incompatibilities.specs.declared.origin.Origin.TheVariants.{Axiom}
 use Rattle.propagation.specs.Satisfaction.{IsQuiet, Sat}
-use Rattle.propagation.specs.Trails.{Above, StepView, TrailView, end_sets, no_step, past, set_of, sets_at, space_of, step_at}
+use Rattle.propagation.specs.Trails.{Above, StepView, TrailView, end_sets, no_step, past, set_of, sets_at, space_of}
+use Rattle.propagation.specs.Trails.{step_at}
 use Rattle.propagation.specs.Trails.{total, undo}
 use Rattle.propagation.specs.Promises.{IsDecided, IsSound, IsTrail, LieIn, Propagated, IsProgress}
 use Rattle.propagation.specs.declared.propagating.Progress.{Progress}
@@ -23,9 +24,9 @@ use Rattle.propagation.proofs.Vertices.{in_range}
 use Rattle.propagation.proofs.Widened.{ends_long, ends_sum, ends_wider, old_set, quiet_wider, sat_back, short_past}
 use Rattle.propagation.proofs.Widened.{start_sum, wider_trail}
 use Rattle.conflicts.specs.Resolving.{IsLearned, Quiet}
-use Rattle.guiding.specs.Searching.{AllAsked, AreMore, IsCaught, IsFalling, IsOfNew, IsOnly, IsSearching, Pairs}
-use Rattle.guiding.specs.Searching.{HasJumped, space, space_in, start_of, sum_at, up_to}
-use Rattle.guiding.specs.Turning.{HasFallen, IsAdding}
+use Rattle.guiding.specs.inner.Searching.{AllAsked, AreMore, IsCaught, IsFalling, IsOfNew, IsOnly, IsSearching, Pairs}
+use Rattle.guiding.specs.inner.Searching.{HasJumped, space, space_in, start_of, sum_at, up_to}
+use Rattle.guiding.specs.inner.Turning.{HasFallen, IsAdding}
 use Rattle.guiding.proofs.Ends.{above_less, deeper_falls, end_top, ends_same, falling_deeper, falling_lower}
 use Rattle.guiding.proofs.Each.{falling_at, spent, start_at, top_at}
 use Rattle.guiding.proofs.Ends.{falling_stays, lower_falls, space_stays, start_same}

@@ -28,9 +28,9 @@ use Rattle.refutations.specs.Causes.{terms_with, terms_of_cause}
 use Rattle.refutations.proofs.Named.{passes-is}
 use Rattle.numbering.specs.Numberings.{Numbering, Says, members_at}
 use Rattle.numbering.specs.Pairs.{Pair, first_pair, owner_pair}
-use Rattle.numbering.specs.Assignments.{state_at}
+use Rattle.numbering.specs.inner.Assignments.{state_at}
 use Rattle.numbering.proofs.Distinct.{states_once}
-use Rattle.guiding.specs.Searching.{IsOnly}
+use Rattle.guiding.specs.inner.Searching.{IsOnly}
 
 -- ---- the first of a cause's terms
 

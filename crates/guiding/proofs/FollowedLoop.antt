@@ -16,8 +16,8 @@ use Rattle.propagation.specs.declared.propagating.Progress.{Progress}
 use Rattle.propagation.specs.declared.propagating.Progress.TheVariants.{Conflict}
 use Rattle.propagation.proofs.Vertices.{in_range}
 use Rattle.conflicts.specs.Resolving.{IsGained}
-use Rattle.guiding.specs.Searching.{CanDecide, HasSpaces}
-use Rattle.guiding.specs.Following.{AreGiven, IsLeft}
+use Rattle.guiding.specs.inner.Searching.{CanDecide, HasSpaces}
+use Rattle.guiding.specs.inner.Following.{AreGiven, IsLeft}
 
 holds_broken : (s : Members) (o : Option Members) (i : ℕ) → HoldsAt s o → (0 < size s → has s i ≡ true) → HoldsOf o i
 holds_broken s None i h there = tt

@@ -13,8 +13,8 @@ use Rattle.incompatibilities.specs.Stores.{EntryView, entry}
 use Rattle.incompatibilities.specs.declared.origin.Origin.TheVariants.{Axiom}
 use Rattle.propagation.specs.Satisfaction.{Agrees, BreaksNone}
 use Rattle.propagation.specs.Trails.{TrailView, set_of, space_of}
-use Rattle.propagation.specs.Widening.{IsWider}
-use Rattle.model.specs.Assignment.{Assigns, Has}
+use Rattle.propagation.specs.inner.Widening.{IsWider}
+use Rattle.model.specs.inner.Assignment.{Assigns, Has}
 use Rattle.model.specs.Content.{Content, Problem}
 use Rattle.model.specs.Selection.{IsValidSelection}
 use Rattle.model.specs.Vertices.{State, Vertex, absent, space}
@@ -23,19 +23,20 @@ use Rattle.model.proofs.Lists.{pairs_first, pairs_rest}
 use Rattle.model.proofs.Places.{got_in}
 use Rattle.refutations.specs.Causes.{kind_of, terms_of_cause}
 use Rattle.refutations.proofs.CauseLaws.{cause_instance}
-use Rattle.numbering.specs.Assignments.{IsOf, state_at}
+use Rattle.numbering.specs.inner.Assignments.{IsOf, state_at}
 use Rattle.numbering.specs.Numberings.{IsGrown, Numbering}
 use Rattle.numbering.specs.Pairs.{AreOfPair, Given, Pair}
 use Rattle.numbering.proofs.Distinct.{states_once}
 use Rattle.numbering.proofs.Needing.{still_at}
 use Rattle.numbering.proofs.Sound.{breaks_none, has_assignment}
-use Rattle.guiding.specs.Searching.{HasSpaces}
-use Rattle.guiding.specs.Following.{IsLeft, IsSelection, KeepsFollowed}
+use Rattle.guiding.specs.inner.Searching.{HasSpaces}
+use Rattle.guiding.specs.inner.Following.{IsLeft, IsSelection, KeepsFollowed}
 use Rattle.guiding.specs.declared.turns.Answer.{Answer}
 use Rattle.guiding.specs.declared.turns.Answer.TheVariants.{Selection, Unsolvable}
-use Rattle.guiding.specs.Guides.{CanFollow, EncodedView, Follows, GoesOn, HasBegun, HasFollowed, IsAsking, IsFollowed}
-use Rattle.guiding.specs.Guides.{as_entry, on_trail}
-use Rattle.guiding.specs.Remaining.{spaces_of}
+use Rattle.guiding.specs.inner.Guides.{CanFollow, EncodedView, Follows, GoesOn, HasBegun, HasFollowed, IsAsking}
+use Rattle.guiding.specs.inner.Guides.{IsFollowed}
+use Rattle.guiding.specs.inner.Guides.{as_entry, on_trail}
+use Rattle.guiding.specs.inner.Remaining.{spaces_of}
 use Rattle.guiding.proofs.Adding.{IsAsked, asked_spaces, given_at, given_how, with_given_is}
 use Rattle.guiding.proofs.FirstTerms.{space_starts, state_is}
 use Rattle.guiding.proofs.Marks.{lengths_at}

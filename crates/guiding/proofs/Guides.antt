@@ -8,11 +8,11 @@ use Rattle.version_sets.specs.Sets.{Members, every, has, size}
 use Rattle.incompatibilities.specs.Stores.{EntryView}
 use Rattle.propagation.specs.Trails.{TrailView, set_of, space_of}
 use Rattle.propagation.specs.Promises.{LieIn}
-use Rattle.propagation.specs.Widening.{IsWider}
+use Rattle.propagation.specs.inner.Widening.{IsWider}
 use Rattle.propagation.proofs.SetLemmas.{size_every}
 use Rattle.propagation.proofs.Widened.{wider_none}
-use Rattle.guiding.specs.Searching.{AllAsked, HasSpaces, IsOnly, Pairs}
-use Rattle.guiding.specs.Turning.{IsAdding}
+use Rattle.guiding.specs.inner.Searching.{AllAsked, HasSpaces, IsOnly, Pairs}
+use Rattle.guiding.specs.inner.Turning.{IsAdding}
 
 pub none_size : (s : Members) → ((i : ℕ) → i < length s → has s i ≡ false) → size s ≡ 0
 none_size [] all = refl

@@ -12,7 +12,7 @@ use Rattle.std.proofs.lemmas.Option.{none-some, same_Some, slice_get-get_or, sli
 use Rattle.semver.specs.Identifiers.{parts_of}
 use Rattle.classes.specs.Classes.{class_view}
 use Rattle.classes.specs.declared.class.Class as code
-use Rattle.lockfile.specs.Views.{package_view, package_views}
+use Rattle.lockfile.specs.inner.Views.{package_view, package_views}
 use Rattle.lockfile.specs.declared.package.Package as locked
 use Rattle.model.specs.Content as model
 use Rattle.model.specs.Content.{Problem, Content, last_serving, list_if}
@@ -20,12 +20,12 @@ use Rattle.model.specs.Summary.{Dependency}
 use Rattle.model.specs.Selection.{Class, class_of, IsValidSelection}
 use Rattle.model.specs.Vertices.{Owner, State, absent, version, in_class, dep, pkg, dep_classes, dep_space, has_state}
 use Rattle.model.specs.Vertices.{owner_brings, same_class, space}
-use Rattle.model.specs.Assignment.{Leads}
+use Rattle.model.specs.inner.Assignment.{Leads}
 use Rattle.model.proofs.Lists.{in_cons, in_map, in_none}
 use Rattle.model.proofs.Owners.{owner_is, owner_package}
 use Rattle.model.proofs.Same.{class-refl, class-same}
 use Rattle.model.proofs.Spaces.{has_in_space, state_from}
-use Rattle.guiding.specs.Found.{is_locked, led_to, served_by, IsNumberOf, IsStateIn}
+use Rattle.guiding.specs.inner.Found.{is_locked, led_to, served_by, IsNumberOf, IsStateIn}
 use Rattle.guiding.proofs.Owners.{find_seen, locked_found, owner_found}
 
 -- ---- the first place that passes

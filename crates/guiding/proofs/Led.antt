@@ -12,10 +12,10 @@ use Rattle.model.specs.Summary.{Dependency}
 use Rattle.model.specs.Vertices.{Owner}
 use Rattle.model.specs.WellFormed.{IsContent}
 use Rattle.model.proofs.Contents.{rising_at, within_at}
-use Rattle.lockfile.specs.Views.{package_view, package_views}
+use Rattle.lockfile.specs.inner.Views.{package_view, package_views}
 use Rattle.lockfile.specs.declared.package.Package.{Package}
 use Rattle.catalogue.proofs.Rows.{item_at}
-use Rattle.guiding.specs.Found.{is_owner, led_to, served_by}
+use Rattle.guiding.specs.inner.Found.{is_owner, led_to, served_by}
 use Rattle.guiding.proofs.Owners.{find_seen}
 
 -- what is found stands at a place

@@ -7,7 +7,7 @@ use Rattle.std.proofs.lemmas.List.{length-append, length-replicate}
 use Rattle.version_sets.proofs.Laws.{length-join, length-only}
 use Rattle.version_sets.specs.Sets.{Members, has, join, none, only}
 use Rattle.propagation.specs.Trails.{set_of}
-use Rattle.guiding.specs.Guides.{marked}
+use Rattle.guiding.specs.inner.Guides.{marked}
 use Rattle.guiding.proofs.Arrivals.{map_append}
 
 join_left : (x y : Members) (i : ℕ) → length x ≡ length y → has x i ≡ true → has (join x y) i ≡ true

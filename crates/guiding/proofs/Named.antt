@@ -13,7 +13,7 @@ use Rattle.semver.specs.Identifiers.{parts_text}
 use Rattle.semver.specs.Parse.{Parts}
 use Rattle.std.proofs.lemmas.List.{length-map}
 use Rattle.std.proofs.lemmas.Option.{slice_get-get_or, slice_get-map}
-use Rattle.lockfile.specs.Views.{package_view, package_views}
+use Rattle.lockfile.specs.inner.Views.{package_view, package_views}
 use Rattle.lockfile.specs.declared.package.Package as locked
 use Rattle.model.specs.Content.{Package, Problem}
 use Rattle.model.specs.Axioms.{is_lower}
@@ -28,9 +28,9 @@ use Rattle.model.proofs.Owners.{root_parts}
 use Rattle.model.proofs.Same.{text-same}
 use Rattle.model.proofs.Tests.{below-less}
 use Rattle.selection.proofs.NameOrder.{names_rise}
-use Rattle.lockfile.specs.Search.{named_cmp}
+use Rattle.lockfile.specs.inner.Search.{named_cmp}
 use Rattle.lookups.proofs.Pieces as class_order
-use Rattle.guiding.specs.Found.{before_by, is_before, is_locked, is_sourceless}
+use Rattle.guiding.specs.inner.Found.{before_by, is_before, is_locked, is_sourceless}
 use Rattle.guiding.proofs.Owners.{sourceless_root}
 
 -- what is found is past those that fail

@@ -15,9 +15,9 @@ use Rattle.numbering.specs.Numberings.{IsGrown, IsNumbering, Numbering, number_i
 use Rattle.numbering.proofs.Needing.{still_at}
 use Rattle.numbering.proofs.Places.{number_at, number_of}
 use Rattle.propagation.specs.Trails.{set_of}
-use Rattle.propagation.specs.Widening.{sum_of}
-use Rattle.guiding.specs.Guides.{asked_at, asked_if, on_trail}
-use Rattle.guiding.specs.Remaining.{late_of, spaces_of}
+use Rattle.propagation.specs.inner.Widening.{sum_of}
+use Rattle.guiding.specs.inner.Guides.{asked_at, asked_if, on_trail}
+use Rattle.guiding.specs.inner.Remaining.{late_of, spaces_of}
 use Rattle.guiding.proofs.Arrivals.{map_append}
 use Rattle.guiding.proofs.Remaining.{late_grown}
 

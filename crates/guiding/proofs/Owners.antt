@@ -9,10 +9,10 @@ use Rattle.std.specs.Option.{option_and_then}
 use Rattle.model.specs.Summary.{same_text}
 use Rattle.model.specs.Selection.{Class, class_of, IsValidSelection, IsOther, IsRootAt}
 use Rattle.model.specs.Vertices.{Owner, the_root, version_of, same_class}
-use Rattle.model.specs.Assignment.{Locks, IsOwnerAt}
+use Rattle.model.specs.inner.Assignment.{Locks, IsOwnerAt}
 use Rattle.model.proofs.Same.{both, text-same, text-refl, class-same, class-refl}
 use Rattle.model.proofs.Owners.{root_parts, not_root, same_locked, same_root}
-use Rattle.guiding.specs.Found.{is_sourceless, is_locked, is_owner}
+use Rattle.guiding.specs.inner.Found.{is_sourceless, is_locked, is_owner}
 
 -- ---- the first that passes
 

@@ -10,9 +10,9 @@ use Rattle.model.specs.Vertices.{Vertex, same_vertex, space}
 use Rattle.model.specs.Axioms.{IsVertex}
 use Rattle.model.proofs.Lists.{in_none, in_cons, in_first, in_rest, pairs_first, pairs_rest}
 use Rattle.model.proofs.Same.{vertex-same, vertex-refl, vertex-other}
-use Rattle.propagation.specs.Widening.{sum_of}
-use Rattle.guiding.specs.Everything.{vertices}
-use Rattle.guiding.specs.Remaining.{late_in, late_of, open_below, open_in, open_of, spaces_of}
+use Rattle.propagation.specs.inner.Widening.{sum_of}
+use Rattle.guiding.specs.inner.Everything.{vertices}
+use Rattle.guiding.specs.inner.Remaining.{late_in, late_of, open_below, open_in, open_of, spaces_of}
 use Rattle.guiding.proofs.Everything.{all_listed, listed_apart}
 
 -- ---- vertices get numbers

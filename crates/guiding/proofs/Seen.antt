@@ -7,13 +7,13 @@ use Rattle.version_sets.specs.Sets.{every, has, size}
 use Rattle.version_sets.proofs.Laws.{size-le}
 use Rattle.propagation.specs.Trails.{StepView, TrailView, set_of, sets_at, space_of, step_at, undo}
 use Rattle.propagation.specs.Promises.{IsCut, IsSound}
-use Rattle.propagation.specs.Widening.{IsWider}
+use Rattle.propagation.specs.inner.Widening.{IsWider}
 use Rattle.propagation.proofs.Back.{back_same, sets_long, sets_now}
 use Rattle.propagation.proofs.Places.{shrinks, some_at}
 use Rattle.propagation.proofs.SetLemmas.{inside_size, only_inside, size_every}
 use Rattle.propagation.proofs.Soundness.{same_space}
 use Rattle.propagation.proofs.Widened.{old_set, sets_wider}
-use Rattle.guiding.specs.Searching.{AllAsked, AreMore, HasSpaces, IsOnly, IsSeen, LoneAsked, Pairs}
+use Rattle.guiding.specs.inner.Searching.{AllAsked, AreMore, HasSpaces, IsOnly, IsSeen, LoneAsked, Pairs}
 
 -- more places at the end
 pub seen_longer : (n : ℕ) (asked : Pairs) (old new : TrailView) (added : List StepView) → new.steps ≡ old.steps ++ added

@@ -11,7 +11,7 @@ use Rattle.propagation.specs.Satisfaction.{Agrees, IsQuiet, OthersHold}
 use Rattle.propagation.specs.Trails.{set_of}
 use Rattle.propagation.proofs.SetLemmas.{has_some, one_inside}
 use Rattle.propagation.proofs.Vertices.{in_range}
-use Rattle.guiding.specs.Following.{IsDecidedBut}
+use Rattle.guiding.specs.inner.Following.{IsDecidedBut}
 
 module _ (x : Assignment) (sets : List Members) (f : Terms) (w : ℕ) (lies : LiesIn (λ u. length (set_of sets u)) f)
     (agrees : Agrees x sets) (quiet : IsQuiet sets f) (decided : IsDecidedBut w x sets f) (breaks : Breaks x f) where

@@ -19,20 +19,20 @@ use Rattle.propagation.proofs.Places.{some_at}
 use Rattle.propagation.proofs.Vertices.{in_range}
 use Rattle.model.specs.Content.{Problem}
 use Rattle.model.specs.Vertices.{State, Vertex, absent, root, space}
-use Rattle.model.specs.Search.{IsUnbroken}
+use Rattle.model.specs.inner.Search.{IsUnbroken}
 use Rattle.refutations.specs.Causes.{Cause, terms_of_cause}
-use Rattle.numbering.specs.Assignments.{IsAdded, IsSettled, state_at, state_if, state_of}
-use Rattle.numbering.specs.Finals.{IsAtRest, IsFinal}
+use Rattle.numbering.specs.inner.Assignments.{IsAdded, IsSettled, state_at, state_if, state_of}
+use Rattle.numbering.specs.inner.Finals.{IsAtRest, IsFinal}
 use Rattle.numbering.specs.Numberings.{IsNumbering, Numbering, Says, number_in}
 use Rattle.numbering.specs.Pairs.{Pair, first_pair}
 use Rattle.numbering.proofs.Absent.{instance_one_zero}
 use Rattle.numbering.proofs.Final.{breaks_not}
 use Rattle.numbering.proofs.Places.{number_at}
 use Rattle.numbering.proofs.Settled.{is_unbroken}
-use Rattle.guiding.specs.Searching.{AllAsked, HasSpaces}
-use Rattle.guiding.specs.Following as following
-use Rattle.guiding.specs.Guides.{first_in, AreStored, IsDone, IsOfInstance, IsPut, asked_of, on_trail}
-use Rattle.guiding.specs.Remaining.{spaces_of}
+use Rattle.guiding.specs.inner.Searching.{AllAsked, HasSpaces}
+use Rattle.guiding.specs.inner.Following as following
+use Rattle.guiding.specs.inner.Guides.{first_in, AreStored, IsDone, IsOfInstance, IsPut, asked_of, on_trail}
+use Rattle.guiding.specs.inner.Remaining.{spaces_of}
 use Rattle.guiding.proofs.Alone.{one_member}
 use Rattle.guiding.proofs.Marks.{lengths_at}
 use Rattle.guiding.proofs.OnTrail.{on_trail_at}

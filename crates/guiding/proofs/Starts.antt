@@ -15,19 +15,19 @@ use Rattle.model.specs.Content.{Content}
 use Rattle.model.specs.Vertices.{Vertex, absent, root}
 use Rattle.refutations.specs.Causes.{kind_of, terms_of_cause}
 use Rattle.refutations.proofs.CauseLaws.{cause_instance}
-use Rattle.numbering.specs.Assignments.{state_at}
-use Rattle.numbering.specs.KnownProblem.{problem}
+use Rattle.numbering.specs.inner.Assignments.{state_at}
+use Rattle.numbering.specs.inner.KnownProblem.{problem}
 use Rattle.numbering.specs.Numberings.{Numbering}
 use Rattle.numbering.specs.Pairs.{Given, IsGivenAt}
 use Rattle.numbering.specs.declared.known_problem.KnownProblem.{KnownProblem}
-use Rattle.guiding.specs.Searching.{HasSpaces, IsSeen}
-use Rattle.guiding.specs.Following as following
-use Rattle.guiding.specs.Following.{IsLeft}
-use Rattle.incompatibilities.specs.Counts.{combinations}
+use Rattle.guiding.specs.inner.Searching.{HasSpaces, IsSeen}
+use Rattle.guiding.specs.inner.Following as following
+use Rattle.guiding.specs.inner.Following.{IsLeft}
+use Rattle.incompatibilities.specs.inner.Counts.{combinations}
 use Rattle.guiding.proofs.Counts.{no_combinations}
 use Rattle.guiding.proofs.Guides.{spaces_wider}
-use Rattle.guiding.specs.Guides.{CanFollow, Follows, HasBegun, IsCome, IsEncoding, IsOfInstance, IsPut, as_entry}
-use Rattle.guiding.specs.Guides.{asked_of, encoded_view, with_given}
+use Rattle.guiding.specs.inner.Guides.{CanFollow, Follows, HasBegun, IsCome, IsEncoding, IsOfInstance, IsPut, as_entry}
+use Rattle.guiding.specs.inner.Guides.{asked_of, encoded_view, with_given}
 use Rattle.guiding.proofs.Adding.{given_at, given_of, of_all, said_long, with_given_is}
 use Rattle.guiding.proofs.Following.{more_unbroken, wider_agrees}
 use Rattle.guiding.proofs.Marks.{lengths_none, past_none}

@@ -3,7 +3,7 @@ use Rattle.std.proofs.Common.{ℕ, zero, suc, ◌+◌, ◌*◌, ◌^◌, ◌<◌
 use Rattle.std.proofs.Common.{arith}
 use Rattle.std.proofs.lemmas.Nat.{mul-le}
 use Rattle.std.proofs.Math.Nat.{pow-suc, pow-zero}
-use Rattle.guiding.specs.Measures.{Falling, weigh, measure_of}
+use Rattle.guiding.specs.inner.Measures.{Falling, weigh, measure_of}
 
 -- one digit in front
 digit : (x b p w : ℕ) → x < b → w < p → x * p + w < p * b

@@ -1,10 +1,1 @@
-pub mod Everything
-pub mod Remaining
-pub mod Guides
-pub mod Going
-pub mod Counting
-pub mod Measures
-pub mod Searching
-pub mod Turning
-pub mod Following
-pub mod Found
+pub mod inner

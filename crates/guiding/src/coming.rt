@@ -4,7 +4,7 @@ ghost use Rattle.std.specs.Prelude.{◌≡◌, ◌+◌, ◌<◌, ◌≤◌, OnOk
 ghost use Rattle.incompatibilities.specs.Stores.{entries_view};
 ghost use Rattle.propagation.specs.Promises.{IsTrail};
 ghost use Rattle.propagation.specs.Trails.{trail_view};
-ghost use Rattle.guiding.specs.Guides.{IsCome, IsEncoding};
+ghost use Rattle.guiding.specs.inner.Guides.{IsCome, IsEncoding};
 
 use incompatibilities::Store;
 use numbering::{KnownProblem, Table, space_at};

@@ -4,7 +4,7 @@ ghost use Rattle.std.specs.Prelude.{◌≡◌, ◌<◌, OnErr, OnOk, length, map
 ghost use Rattle.incompatibilities.specs.Stores.{entries_view};
 ghost use Rattle.propagation.specs.Trails.{set_of};
 ghost use Rattle.numbering.specs.GivenViews.{given_views};
-ghost use Rattle.guiding.specs.Guides.{marked, with_given};
+ghost use Rattle.guiding.specs.inner.Guides.{marked, with_given};
 
 use incompatibilities::{Incompatibility, Origin, Store};
 use std::alloc::{AllocError, Global};

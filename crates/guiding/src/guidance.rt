@@ -13,9 +13,9 @@ pub trait Guide<S: States + Drop>: Sized {
     ghost use Rattle.propagation.specs.Promises.{IsTrail};
     ghost use Rattle.propagation.specs.Satisfaction.{Agrees};
     ghost use Rattle.propagation.specs.Trails.{TrailView, trail_view};
-    ghost use Rattle.guiding.specs.Searching.{AreMore, HasSpaces, IsCaught, IsSeen, Pairs};
-    ghost use Rattle.guiding.specs.Turning.{IsAdding, IsChosen};
-    ghost use Rattle.guiding.specs.Following.{AreGiven, KeepsFollowed};
+    ghost use Rattle.guiding.specs.inner.Searching.{AreMore, HasSpaces, IsCaught, IsSeen, Pairs};
+    ghost use Rattle.guiding.specs.inner.Turning.{IsAdding, IsChosen};
+    ghost use Rattle.guiding.specs.inner.Following.{AreGiven, KeepsFollowed};
     ghost use Rattle.std.specs.Prelude.{◌≡◌, ℕ, ◌<◌, ◌≤◌, ◌++◌, IfOk, IfSome, List, OnOk, length};
 
     /// How many states each vertex has that the trail has now.

@@ -1,18 +1,19 @@
 //! What a search asks of a manifest and a loaded index: its vertices and axioms on demand, and what to decide.
 
 ghost use Rattle.std.specs.Prelude.{◌≡◌, ◌<◌, [], IfOk, IfSome, OnOk, false, is_some, length, map, true};
-ghost use Rattle.numbering.specs.KnownProblem.{KnowsDefault, problem};
+ghost use Rattle.numbering.specs.inner.KnownProblem.{KnowsDefault, problem};
 ghost use Rattle.numbering.specs.Numberings.{IsNumbering};
 ghost use Rattle.incompatibilities.specs.Incompatibilities.{Assignment};
 ghost use Rattle.incompatibilities.specs.Stores.{entries_view};
 ghost use Rattle.propagation.specs.Promises.{IsTrail};
 ghost use Rattle.propagation.specs.Satisfaction.{Agrees};
 ghost use Rattle.propagation.specs.Trails.{set_of, trail_view};
-ghost use Rattle.guiding.specs.Searching.{CanDecide, HasSpaces};
+ghost use Rattle.guiding.specs.inner.Searching.{CanDecide, HasSpaces};
 ghost use Rattle.version_sets.specs.Sets.{has, size};
-ghost use Rattle.vertices.specs.RefViews.{vertex_ref_view};
-ghost use Rattle.guiding.specs.Guides.{CanAsk, CanFollow, Follows, HasBegun, IsAsking, IsFollowed, IsUnasked, on_trail};
-ghost use Rattle.guiding.specs.Remaining.{spaces_of};
+ghost use Rattle.vertices.specs.inner.RefViews.{vertex_ref_view};
+ghost use Rattle.guiding.specs.inner.Guides.{CanAsk, CanFollow, Follows, HasBegun, IsAsking, IsFollowed, IsUnasked};
+ghost use Rattle.guiding.specs.inner.Guides.{on_trail};
+ghost use Rattle.guiding.specs.inner.Remaining.{spaces_of};
 
 use crate::choosing::{greatest, is_undecided};
 use crate::coming::come;
@@ -60,8 +61,8 @@ pub struct Encoded<'a, S: States> {
 
 impl<'a, S: States> Model for Encoded<'a, S> {
     ghost use Rattle.std.specs.Prelude.{map};
-    ghost use Rattle.numbering.specs.KnownProblem.{problem};
-    ghost use Rattle.guiding.specs.Guides.{CanFollow, EncodedView, IsEncoding, encoded_view};
+    ghost use Rattle.numbering.specs.inner.KnownProblem.{problem};
+    ghost use Rattle.guiding.specs.inner.Guides.{CanFollow, EncodedView, IsEncoding, encoded_view};
 
     ghost Value = { EncodedView };
 
@@ -330,9 +331,9 @@ impl<'a, S: States + Drop> Encoded<'a, S> {
 
 impl<'a, S: States + Drop> Guide<S> for Encoded<'a, S> {
     ghost use Rattle.std.specs.Prelude.{map, length};
-    ghost use Rattle.guiding.specs.Guides.{AreStored, Follows, GoesOn, IsDone, IsOfInstance, asked_of, late_with};
-    ghost use Rattle.guiding.specs.Guides.{left_with};
-    ghost use Rattle.guiding.specs.Going.{goes_on, goes_same, stored_on};
+    ghost use Rattle.guiding.specs.inner.Guides.{AreStored, Follows, GoesOn, IsDone, IsOfInstance, asked_of, late_with};
+    ghost use Rattle.guiding.specs.inner.Guides.{left_with};
+    ghost use Rattle.guiding.specs.inner.Going.{goes_on, goes_same, stored_on};
 
     ghost spaces = { λ g. map length g.asked };
 

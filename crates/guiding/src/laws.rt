@@ -5,7 +5,7 @@ ghost use Rattle.incompatibilities.specs.Stores.{EntryView};
 ghost use Rattle.propagation.specs.Promises.{IsSound, Propagated};
 ghost use Rattle.propagation.specs.Trails.{StepView, TrailView};
 ghost use Rattle.propagation.specs.declared.propagating.Progress.{Progress};
-ghost use Rattle.guiding.specs.Searching.{EachFalls, HasJumped};
+ghost use Rattle.guiding.specs.inner.Searching.{EachFalls, HasJumped};
 ghost use Rattle.std.specs.Prelude.{ℕ, List};
 
 /// Each assignment and each decision of a trail brought the number down.

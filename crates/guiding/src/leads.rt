@@ -2,7 +2,7 @@
 //! decided for, so that a version that they rule out opens no level.
 
 ghost use Rattle.std.specs.Prelude.{IfSome, map};
-ghost use Rattle.guiding.specs.Guides.{IsUnasked};
+ghost use Rattle.guiding.specs.inner.Guides.{IsUnasked};
 
 use incompatibilities::{Id, Store};
 use std::alloc::{AllocError, Global};

@@ -5,7 +5,7 @@
 //! one state left, not absent, that wasn't asked for, the instances of that pair go into the store and the vertices
 //! that they speak of onto the trail. That misses none, for where a pair doesn't hold none of its instances is broken
 //! (`numbering`). How many states are still to come, and how many pairs weren't asked for, by which the loop ends, is
-//! counted over the finite list of all vertices (`specs/Everything`), by the proof alone.
+//! counted over the finite list of all vertices (`specs/inner/Everything`), by the proof alone.
 //!
 //! What is decided is, of the vertices that can't be absent and have several states left, that which had a part in most
 //! far jumps, the first by number (`order.rt`). It takes its state in the valid selection that is followed, if one is;

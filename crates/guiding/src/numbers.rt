@@ -5,8 +5,8 @@ ghost use Rattle.semver.specs.Identifiers.{parts_of};
 ghost use Rattle.classes.specs.Classes.{class_view};
 ghost use Rattle.model.specs.Vertices.{has_state, pkg, same_class, space};
 ghost use Rattle.model.specs.Vertices as model;
-ghost use Rattle.numbering.specs.KnownProblem.{problem};
-ghost use Rattle.guiding.specs.Found.{IsNumberOf};
+ghost use Rattle.numbering.specs.inner.KnownProblem.{problem};
+ghost use Rattle.guiding.specs.inner.Found.{IsNumberOf};
 
 use catalogue::place_of;
 use classes::{Class, same_class};

@@ -3,8 +3,8 @@
 ghost use Rattle.std.specs.Prelude.{◌≡◌, ◌<◌, length, map};
 ghost use Rattle.propagation.specs.Promises.{IsSound};
 ghost use Rattle.propagation.specs.Trails.{trail_view};
-ghost use Rattle.guiding.specs.Searching.{IsSeen};
-ghost use Rattle.guiding.specs.Guides.{IsNextOpen, IsOpenAt, IsUnless, asked_of};
+ghost use Rattle.guiding.specs.inner.Searching.{IsSeen};
+ghost use Rattle.guiding.specs.inner.Guides.{IsNextOpen, IsOpenAt, IsUnless, asked_of};
 
 use crate::states_left::least;
 use propagation::Trail;

@@ -3,9 +3,9 @@
 ghost use Rattle.std.specs.Prelude.{◌≡◌, ◌≤◌, [], IfOk, length};
 ghost use Rattle.incompatibilities.specs.Stores.{entries_view};
 ghost use Rattle.propagation.specs.Trails.{trail_view};
-ghost use Rattle.numbering.specs.KnownProblem.{KnowsDefault, problem};
-ghost use Rattle.guiding.specs.Counting.{IsCount};
-ghost use Rattle.guiding.specs.Guides.{CanFollow, HasSearched};
+ghost use Rattle.numbering.specs.inner.KnownProblem.{KnowsDefault, problem};
+ghost use Rattle.guiding.specs.inner.Counting.{IsCount};
+ghost use Rattle.guiding.specs.inner.Guides.{CanFollow, HasSearched};
 
 use crate::guide::Encoded;
 use crate::turns::{Found, search};

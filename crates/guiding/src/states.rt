@@ -1,9 +1,9 @@
 //! The states that the vertices of the search have in a content, by their numbers: what a lock says to a search that
 //! follows it.
 //!
-//! The model says of a content by relations which state each vertex has in it (`model/specs/Assignment`), since which
-//! features are on is found by chains of reasons. A search that decides as a content does has only one vertex at hand
-//! and needs one number, soon. So `state_in` looks up packages and dependencies alone: the package of the name and
+//! The model says of a content by relations which state each vertex has in it (`model/specs/inner/Assignment`), since
+//! which features are on is found by chains of reasons. A search that decides as a content does has only one vertex at
+//! hand and needs one number, soon. So `state_in` looks up packages and dependencies alone: the package of the name and
 //! class, or the package that the dependency leads to, each by search in package order, and from it the place among the
 //! states. A vertex of another kind that isn't absent has but one state, `present`.
 //!
@@ -13,14 +13,14 @@
 
 ghost use Rattle.std.specs.Prelude.{◌≡◌, ◌<◌, ℕ, IfOk, Some, length};
 ghost use Rattle.classes.specs.Classes.{class_view};
-ghost use Rattle.lockfile.specs.Views.{package_views};
-ghost use Rattle.model.specs.Assignment.{Has};
+ghost use Rattle.lockfile.specs.inner.Views.{package_views};
+ghost use Rattle.model.specs.inner.Assignment.{Has};
 ghost use Rattle.model.specs.Selection.{IsValidSelection};
 ghost use Rattle.model.specs.Vertices.{State, dep, pkg, space};
-ghost use Rattle.numbering.specs.Assignments.{state_at};
-ghost use Rattle.numbering.specs.KnownProblem.{problem};
-ghost use Rattle.vertices.specs.RefViews.{owner_ref_view, vertex_ref_view};
-ghost use Rattle.guiding.specs.Found.{IsStateIn};
+ghost use Rattle.numbering.specs.inner.Assignments.{state_at};
+ghost use Rattle.numbering.specs.inner.KnownProblem.{problem};
+ghost use Rattle.vertices.specs.inner.RefViews.{owner_ref_view, vertex_ref_view};
+ghost use Rattle.guiding.specs.inner.Found.{IsStateIn};
 
 use crate::in_content::{led_to, package_in};
 use crate::numbers::{class_number, version_number};

@@ -20,11 +20,11 @@ ghost use Rattle.incompatibilities.specs.Stores.{entries_view};
 ghost use Rattle.propagation.specs.Promises.{IsTrail, most};
 ghost use Rattle.propagation.specs.Trails.{trail_view};
 ghost use Rattle.propagation.specs.declared.propagating.Progress.TheVariants.{Conflict, Fixpoint};
-ghost use Rattle.guiding.specs.Counting.{CountsOn, IsCount};
-ghost use Rattle.incompatibilities.specs.Counts.{combinations, links_in};
-ghost use Rattle.guiding.specs.Searching.{EachFalls, HasSpaces, IsCaught, IsSearching, IsSeen, space};
-ghost use Rattle.guiding.specs.Turning.{HasEnded, HasTurned};
-ghost use Rattle.guiding.specs.Following.{AreGiven, IsLeft, IsSelection, KeepsFollowed, TurnsOn};
+ghost use Rattle.guiding.specs.inner.Counting.{CountsOn, IsCount};
+ghost use Rattle.incompatibilities.specs.inner.Counts.{combinations, links_in};
+ghost use Rattle.guiding.specs.inner.Searching.{EachFalls, HasSpaces, IsCaught, IsSearching, IsSeen, space};
+ghost use Rattle.guiding.specs.inner.Turning.{HasEnded, HasTurned};
+ghost use Rattle.guiding.specs.inner.Following.{AreGiven, IsLeft, IsSelection, KeepsFollowed, TurnsOn};
 ghost use Rattle.std.specs.Prelude.{◌≡◌, ℕ, ◌+◌, ◌≤◌, ◌⊎◌, [], IfOk, length, take};
 
 use crate::guidance::Guide;

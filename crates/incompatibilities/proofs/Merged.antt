@@ -6,7 +6,7 @@ use Rattle.version_sets.specs.Sets.{Members, is_full, join, meet}
 use Rattle.terms.specs.Terms.{TermView}
 use Rattle.incompatibilities.specs.Incompatibilities.{AllPast, IsCombination, IsIncompatibility, IsRising, meet_at}
 use Rattle.incompatibilities.specs.Incompatibilities.{states_at, union_at, unless_full}
-use Rattle.incompatibilities.specs.Merging.{both, kept, lone, merged, past, up_to}
+use Rattle.incompatibilities.specs.inner.Merging.{both, kept, lone, merged, past, up_to}
 use Rattle.incompatibilities.proofs.Lookups.{AllUpTo, absent, all_kept, at_first, at_later, none_full-append, not_full}
 use Rattle.incompatibilities.proofs.Lookups.{or_else, or_none, past-append, past_lower, rising-append, states_at-append}
 use Rattle.incompatibilities.proofs.Lookups.{up_to-append}

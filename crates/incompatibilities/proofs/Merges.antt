@@ -8,7 +8,7 @@ use Rattle.version_sets.specs.Sets.{Members}
 use Rattle.terms.specs.Terms.{TermView, term_view, terms_view}
 use Rattle.terms.specs.declared.term.Term.{Term}
 use Rattle.incompatibilities.specs.Incompatibilities.{Fit, IsRising, states_at}
-use Rattle.incompatibilities.specs.Merging.{FitAll, FitsIn, merged, past, up_to}
+use Rattle.incompatibilities.specs.inner.Merging.{FitAll, FitsIn, merged, past, up_to}
 use Rattle.incompatibilities.proofs.Lookups.{absent, at_first, at_later}
 use Rattle.incompatibilities.proofs.Merged.{after, before, same_vertex}
 

@@ -6,7 +6,7 @@ use Rattle.std.proofs.lemmas.Bool.{cases_eq, ne_eqb, or_left, or_right, true≢f
 use Rattle.std.proofs.Math.Seq.{drop-cons}
 use Rattle.std.proofs.lemmas.List.{append-nil, append_assoc, get_or_append_left, length-append, length-set}
 use Rattle.std.specs.declared.alloc.Global.{Global}
-use Rattle.incompatibilities.specs.Rows.{HasRoom, IsApart, IsGrown, Rows, listed_in, row_at, stands_in}
+use Rattle.incompatibilities.specs.inner.Rows.{HasRoom, IsApart, IsGrown, Rows, listed_in, row_at, stands_in}
 use Rattle.version_sets.specs.Sets.{Members}
 use Rattle.terms.specs.Terms.{TermView, terms_view}
 use Rattle.terms.specs.declared.term.Term.{Term}

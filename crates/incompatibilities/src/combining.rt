@@ -1,7 +1,7 @@
 //! Combining two incompatibilities at a vertex.
 
 ghost use Rattle.incompatibilities.specs.Incompatibilities.{Fit, IsCombination, LiesIn, OneIsBroken, states_at};
-ghost use Rattle.incompatibilities.specs.Merging.{FitAll, FitsIn, both, kept, lone, merged, past, up_to};
+ghost use Rattle.incompatibilities.specs.inner.Merging.{FitAll, FitsIn, both, kept, lone, merged, past, up_to};
 ghost use Rattle.std.specs.Prelude.{◌≡◌, ◌++◌, ℕ, IfOk, List, OnOk, flat_map, length};
 ghost use Rattle.terms.specs.Terms.{TermView, term_view, terms_view};
 

@@ -2,7 +2,7 @@
 //! states of that term, so that who goes through a row reads memory in order: most often these are all that has to be
 //! looked at, and the incompatibility and its terms lie elsewhere.
 
-ghost use Rattle.incompatibilities.specs.Rows.{HasRoom, IsApart, IsGrown, listed_in, row_at, stands_in};
+ghost use Rattle.incompatibilities.specs.inner.Rows.{HasRoom, IsApart, IsGrown, listed_in, row_at, stands_in};
 ghost use Rattle.std.specs.Prelude.{◌≡◌, ◌≢◌, ◌++◌, ◌∷◌, [], ℕ, IfOk, OnOk, map, true};
 ghost use Rattle.terms.specs.Terms.{term_view, terms_view};
 

@@ -12,13 +12,14 @@ use Rattle.model.specs.Summary as model
 use Rattle.model.specs.Summary.{Table, same_text}
 use Rattle.model.specs.Tables.{DepName, table_of}
 use Rattle.model.proofs.Same.{text-refl}
-use Rattle.trees.specs.Parts.{data_within, first_members, part_depth}
+use Rattle.trees.specs.inner.Parts.{data_within, first_members, part_depth}
 use Rattle.trees.specs.Trees as trees
 use Rattle.trees.proofs.PartsLemmas.{line-members}
 use Rattle.trees.proofs.TreeLemmas.{or_none}
-use Rattle.index_reader.specs.ByParts.{IsCut, RestView, dependencies_of_bytes, dependencies_of_shapes, lacks}
-use Rattle.index_reader.specs.ByParts.{lacks_parts, part_of_bytes, record_of_parts, rest_of, rest_of_bytes, table_alone}
-use Rattle.index_reader.specs.ByParts.{table_of_bytes}
+use Rattle.index_reader.specs.inner.ByParts.{IsCut, RestView, dependencies_of_bytes, dependencies_of_shapes, lacks}
+use Rattle.index_reader.specs.inner.ByParts.{lacks_parts, part_of_bytes, record_of_parts, rest_of, rest_of_bytes}
+use Rattle.index_reader.specs.inner.ByParts.{table_alone}
+use Rattle.index_reader.specs.inner.ByParts.{table_of_bytes}
 use Rattle.index_reader.specs.Records.{RecordView, dependencies_read, is_of_index, required, semver_or, unless}
 use Rattle.index_reader.specs.Records.{unchecked_of_shape, unchecked_of_line}
 use Rattle.index_reader.specs.Shapes.{Line, DependencyView, FeatureView, ShapeView, as_whole, data_of_bytes, needed}

@@ -9,7 +9,7 @@ use Rattle.std.proofs.lemmas.Bool.Decides.{nat_tests}
 use Rattle.std.proofs.lemmas.List.{take-append-drop}
 use Rattle.model.proofs.Same.{text-same}
 use Rattle.features.specs.Names.{is_package_byte, is_package_name}
-use Rattle.trees.specs.Parts.{is_plain, is_plain_byte}
+use Rattle.trees.specs.inner.Parts.{is_plain, is_plain_byte}
 
 -- what is left of bytes behind a text
 pub stripped : (o : Option (Bor (List ℕ))) (bytes text : List ℕ)

@@ -7,13 +7,13 @@ use Rattle.semver.specs.Parse.{Held}
 use Rattle.serde_json.specs.Data.{Data, array}
 use Rattle.model.specs.Summary as model
 use Rattle.model.specs.Tables.{DepName}
-use Rattle.features.specs.Tables.{dep_name_view}
+use Rattle.features.specs.inner.Tables.{dep_name_view}
 use Rattle.features.specs.Views.{dependency_view}
-use Rattle.trees.specs.Parts.{between_commas, data_within, items_of_data, list_of}
+use Rattle.trees.specs.inner.Parts.{between_commas, data_within, items_of_data, list_of}
 use Rattle.trees.proofs.ListLemmas.{list-by_items}
-use Rattle.index_reader.specs.ByParts.{dependencies_of_bytes, dependencies_of_shapes, item_depth, item_of_bytes}
-use Rattle.index_reader.specs.ByParts.{part_of_bytes, taking_part}
-use Rattle.index_reader.specs.Items.{item_names, item_texts, those_taking_part, with_any}
+use Rattle.index_reader.specs.inner.ByParts.{dependencies_of_bytes, dependencies_of_shapes, item_depth, item_of_bytes}
+use Rattle.index_reader.specs.inner.ByParts.{part_of_bytes, taking_part}
+use Rattle.index_reader.specs.inner.Items.{item_names, item_texts, those_taking_part, with_any}
 use Rattle.index_reader.specs.Records.{dependencies_read, dependency_read, is_of_index, required, required_part, unless}
 use Rattle.index_reader.specs.Shapes.{DependencyView, PartView, dependencies_in, dependency_of, dev, part}
 use Rattle.index_reader.specs.Shapes.{needed_dependencies, unless_null}

@@ -17,7 +17,7 @@ use Rattle.semver.specs.contracts.VersionOrd.TheImpl.{cmp-value}
 use Rattle.model.specs.Order.{precedence}
 use Rattle.index_reader.specs.Files.{same_precedence, has_version}
 use Rattle.index_reader.specs.Views.{record_view}
-use Rattle.index_reader.specs.BareVersions.{bare, has_equal, WithoutBuild, Agrees}
+use Rattle.index_reader.specs.inner.BareVersions.{bare, has_equal, WithoutBuild, Agrees}
 use Rattle.index_reader.specs.declared.record.Record.{Record}
 
 swap_or : (a b c : Bool) → (a || (b || c)) ≡ (b || (a || c))

@@ -11,7 +11,7 @@ use Rattle.features.specs.Views.{requirement_view, dependency_view}
 use Rattle.features.specs.declared.dependency.DependencyParts.{DependencyParts}
 use Rattle.index_reader.specs.Shapes.{Line, PartView}
 use Rattle.index_reader.specs.Records.{feature_names, dependency_read, required_part}
-use Rattle.index_reader.specs.Known.{IsRequirement, IsMadeOf, IsSaid, same_names, same_flags, same_parts}
+use Rattle.index_reader.specs.inner.Known.{IsRequirement, IsMadeOf, IsSaid, same_names, same_flags, same_parts}
 
 -- the dependency that a part is with these features
 abbrev with_features : PartView → List Held → List (List ℕ) → Line model.Dependency

@@ -10,7 +10,7 @@ use Rattle.model.specs.Summary.{Table, same_text}
 use Rattle.model.specs.Tables.{DepName, table_of}
 use Rattle.model.proofs.Same.{both, text-same}
 use Rattle.index_reader.specs.Shapes.{FeatureView, ShapeView}
-use Rattle.index_reader.specs.Made.{same_name, same_feature, Makes}
+use Rattle.index_reader.specs.inner.Made.{same_name, same_feature, Makes}
 use Rattle.index_reader.specs.Written.{dep_names_of, features_of, with_features, unless_faulty}
 
 -- lists of one length are the same where they are place by place

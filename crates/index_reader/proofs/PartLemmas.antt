@@ -8,7 +8,7 @@ use Rattle.serde_json.proofs.Views.{get_member-put, get_member-put_other}
 use Rattle.model.specs.Summary.{same_text}
 use Rattle.model.proofs.Same.{text-same, text-refl}
 use Rattle.index_reader.specs.Shapes.{unless_null, values_by, values_of}
-use Rattle.index_reader.specs.PartMembers.{value_put, values_in}
+use Rattle.index_reader.specs.inner.PartMembers.{value_put, values_in}
 
 -- a member with another key changes nothing of this one
 at_other : (key k : List ℕ) (d : Data) (ms : Members) → same_text k key ≡ false

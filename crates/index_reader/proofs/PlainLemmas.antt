@@ -10,15 +10,15 @@ use Rattle.serde_json.specs.Data.{Data, array, boolean, no_members, null, object
 use Rattle.serde_json.specs.Find.{as_bool, as_str}
 use Rattle.features.specs.declared.dependency.DependencyKind.{DependencyKind}
 use Rattle.features.specs.declared.dependency.DependencyKind.TheVariants.{Normal, Dev}
-use Rattle.trees.specs.Parts.{between_commas, data_within, is_plain, items_of_data, member_text, members_put}
-use Rattle.trees.specs.Parts.{members_text, object_text}
+use Rattle.trees.specs.inner.Parts.{between_commas, data_within, is_plain, items_of_data, member_text, members_put}
+use Rattle.trees.specs.inner.Parts.{members_text, object_text}
 use Rattle.trees.proofs.ListLemmas.{list-by_items}
 use Rattle.trees.proofs.ObjectLemmas.{object-by_members}
 use Rattle.trees.proofs.ScalarLemmas.{plain-false, plain-null, plain-text, plain-true}
-use Rattle.index_reader.specs.ByParts.{item_depth}
-use Rattle.index_reader.specs.Plain.{IsPlainItem, are_plain, flag_text, is_plain_or_null, item_end, item_members}
-use Rattle.index_reader.specs.Plain.{quoted, quoted_list, real_name_members, shape_of_item, text_or_null}
-use Rattle.index_reader.specs.Plain.{texts_of_item}
+use Rattle.index_reader.specs.inner.ByParts.{item_depth}
+use Rattle.index_reader.specs.inner.Plain.{IsPlainItem, are_plain, flag_text, is_plain_or_null, item_end, item_members}
+use Rattle.index_reader.specs.inner.Plain.{quoted, quoted_list, real_name_members, shape_of_item, text_or_null}
+use Rattle.index_reader.specs.inner.Plain.{texts_of_item}
 use Rattle.index_reader.specs.Shapes.{DependencyView, PartView, by_kind, dependency_of, dev, is_dev, kind_at, kind_of}
 use Rattle.index_reader.specs.Shapes.{kind_of_text, needed, needed_name, optional, package_name_at, package_name_of}
 use Rattle.index_reader.specs.Shapes.{package_name_or_none, part, part_with, text_of, texts_in, texts_of, texts_or_none}

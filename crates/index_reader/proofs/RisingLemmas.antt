@@ -14,7 +14,7 @@ use Rattle.model.specs.Summary as model
 use Rattle.model.specs.Summary.{entries_at}
 use Rattle.model.specs.Tables.{Written, with_row}
 use Rattle.features.specs.Names.{is_feature_name}
-use Rattle.features.specs.Tables.{AreRising, rows_of}
+use Rattle.features.specs.inner.Tables.{AreRising, rows_of}
 use Rattle.features.specs.declared.entry.Entry.{Entry}
 use Rattle.features.proofs.RowLemmas.{after, all_after}
 use Rattle.index_reader.specs.Shapes.{Line, FeatureView, wants_memory}

@@ -12,13 +12,14 @@ use Rattle.model.specs.Order.{text_cmp}
 use Rattle.model.specs.Summary as model
 use Rattle.model.specs.Tables.{DepName, Written, table_of}
 use Rattle.features.specs.EntryViews.{entry_views}
-use Rattle.features.specs.Tables.{AreRising, rows_of}
+use Rattle.features.specs.inner.Tables.{AreRising, rows_of}
 use Rattle.features.specs.declared.entry.Entry.{Entry}
-use Rattle.trees.specs.Parts.{data_within, is_plain, keys_rise, member_text, members_in_order}
+use Rattle.trees.specs.inner.Parts.{data_within, is_plain, keys_rise, member_text, members_in_order}
 use Rattle.trees.proofs.ObjectLemmas.{object-by_members}
 use Rattle.trees.proofs.RisingLemmas.{members-stay}
-use Rattle.index_reader.specs.ByParts.{IsRow, item_depth, part_of_bytes, row_of_member, table_of_bytes, value_behind}
-use Rattle.index_reader.specs.Rows.{braced, row_texts, row_views}
+use Rattle.index_reader.specs.inner.ByParts.{IsRow, item_depth, part_of_bytes, row_of_member, table_of_bytes}
+use Rattle.index_reader.specs.inner.ByParts.{value_behind}
+use Rattle.index_reader.specs.inner.Rows.{braced, row_texts, row_views}
 use Rattle.index_reader.specs.Shapes.{FeatureView, features_in, features_or_none, texts_of, unless_null}
 use Rattle.index_reader.specs.Written.{feature_read, features_read, names_rise, unless_faulty, with_features}
 use Rattle.index_reader.specs.declared.fault.LineFault.TheVariants.{Skipped}

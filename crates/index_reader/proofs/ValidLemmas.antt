@@ -1,6 +1,8 @@
 -- What a record of a file brings is of names that are names, and it has no more dependencies than its line has bytes.
-use Rattle.std.proofs.Common.{◌≡◌, ℕ, suc, ◌+◌, ◌≤◌, ◌==◌, ◌||◌, Bool, true, false, cond, List, [], ◌∷◌, ◌++◌, length, map}
-use Rattle.std.proofs.Common.{Option, Some, None, option_and_then, unwrap_or, codes, Result, Ok, Err, IfOk, IfSome, All, refl, ◌<◌}
+use Rattle.std.proofs.Common.{◌≡◌, ℕ, suc, ◌+◌, ◌≤◌, ◌==◌, ◌||◌, Bool, true, false, cond, List, [], ◌∷◌, ◌++◌, length}
+use Rattle.std.proofs.Common.{map}
+use Rattle.std.proofs.Common.{Option, Some, None, option_and_then, unwrap_or, codes, Result, Ok, Err, IfOk, IfSome, All}
+use Rattle.std.proofs.Common.{refl, ◌<◌}
 use Rattle.std.proofs.Common.{sym, subst, arith, Ordering, Less, Equal, Greater, nat_cmp}
 use Rattle.std.proofs.lemmas.List.Elements.{All-append, All-cons, All-head, All-map, All-nil, All-tail, All-weaker}
 use Rattle.std.specs.Cmp.Lexicographic.{slice_cmp}
@@ -22,16 +24,20 @@ use Rattle.trees.specs.Trees as trees
 use Rattle.trees.proofs.Sizes.{size, items_size, members_size, size-some, data-few}
 use Rattle.features.specs.Entries.{entry_of}
 use Rattle.features.specs.Names.{is_package_name, is_feature_name}
-use Rattle.features.specs.Valid.{IsPackageName, IsFeatureName, IsValidEntry, IsValidRow, IsValidDependency, BringsValid}
+use Rattle.features.specs.inner.Valid.{IsPackageName, IsFeatureName, IsValidEntry, IsValidRow, IsValidDependency}
+use Rattle.features.specs.inner.Valid.{BringsValid}
 use Rattle.features.specs.declared.dependency.DependencyKind.{DependencyKind}
 use Rattle.features.proofs.ValidLemmas.{entry-valid, row-valid, built-valid}
 use Rattle.index_reader.specs.Shapes.{Line, data_of_bytes, needed, unless_null, value_at, text_at, flag_at, whole_at}
 use Rattle.index_reader.specs.Shapes.{texts_or_none, features_at, package_name_of, needed_name, package_name_at}
-use Rattle.index_reader.specs.Shapes.{kind_at, is_dev, PartView, DependencyView, dev, part, ValuesView, values_of, part_with}
+use Rattle.index_reader.specs.Shapes.{kind_at, is_dev, PartView, DependencyView, dev, part, ValuesView, values_of}
+use Rattle.index_reader.specs.Shapes.{part_with}
 use Rattle.index_reader.specs.Shapes.{package_name_or_none, optional, text_of, by_kind, dependency_of}
-use Rattle.index_reader.specs.Shapes.{dependencies_in, needed_dependencies, dependencies_at, FeatureView, ShapeView, shape_of}
+use Rattle.index_reader.specs.Shapes.{dependencies_in, needed_dependencies, dependencies_at, FeatureView, ShapeView}
+use Rattle.index_reader.specs.Shapes.{shape_of}
 use Rattle.index_reader.specs.Written.{feature_name_of, entry_read, entries_read, feature_read, with_more, joined}
-use Rattle.index_reader.specs.Written.{with_feature, with_features, written_of, dep_name_of, dep_names_of, unless_faulty}
+use Rattle.index_reader.specs.Written.{with_feature, with_features, written_of, dep_name_of, dep_names_of}
+use Rattle.index_reader.specs.Written.{unless_faulty}
 use Rattle.index_reader.specs.Written.{features_of}
 use Rattle.index_reader.specs.Records.{RecordView, unless, semver_or, required_part, required, is_empty_text, before}
 use Rattle.index_reader.specs.Records.{feature_names, dependency_read, dependencies_read, is_of_index, is_checksum}

@@ -13,11 +13,11 @@ use Rattle.model.specs.Summary as model
 use Rattle.model.specs.Summary.{same_text}
 use Rattle.model.specs.Order.{text_cmp}
 use Rattle.model.specs.Tables.{Written}
-use Rattle.features.specs.Tables.{rows_of}
+use Rattle.features.specs.inner.Tables.{rows_of}
 use Rattle.features.specs.EntryViews.{entry_views}
 use Rattle.features.specs.declared.entry.Entry.{Entry}
 use Rattle.features.proofs.TableLemmas.{at_is, entries_at-rows_of}
-use Rattle.index_reader.specs.ShapeViews.{feature_views}
+use Rattle.index_reader.specs.inner.ShapeViews.{feature_views}
 use Rattle.index_reader.specs.Shapes.{ShapeView}
 use Rattle.index_reader.specs.declared.shape.FeatureShape.{FeatureShape}
 use Rattle.index_reader.specs.Written.{with_more, joined, with_features, written_of}

@@ -6,7 +6,7 @@ use Rattle.semver.specs.Parse.{Held}
 use Rattle.features.specs.Views.{requirement_view, summary_view}
 use Rattle.classes.specs.RustVersions.{rust_version_view}
 use Rattle.index_reader.specs.Shapes.{PartView}
-use Rattle.index_reader.specs.ShapeViews.{part_view}
+use Rattle.index_reader.specs.inner.ShapeViews.{part_view}
 use Rattle.index_reader.specs.Records.{RecordView}
 use Rattle.index_reader.specs.Files.{SkipView, FileView}
 use Rattle.index_reader.specs.declared.line.Required.{Required}

@@ -3,12 +3,12 @@
 ghost use Rattle.std.specs.Prelude.{◌≡◌, [], IfOk, IfSome, Ok, true};
 ghost use Rattle.std.proofs.Props.{props};
 ghost use Rattle.model.specs.Outcome.{Gives};
-ghost use Rattle.features.specs.Tables.{dep_names_view};
+ghost use Rattle.features.specs.inner.Tables.{dep_names_view};
 ghost use Rattle.features.specs.Views.{dependency_views};
-ghost use Rattle.trees.specs.Parts.{keys_rise};
+ghost use Rattle.trees.specs.inner.Parts.{keys_rise};
 ghost use Rattle.index_reader.specs.Shapes.{wants_memory};
-ghost use Rattle.index_reader.specs.ByParts.{dependencies_of_bytes, table_of_bytes};
-ghost use Rattle.index_reader.specs.Rows.{braced, row_texts, row_views};
+ghost use Rattle.index_reader.specs.inner.ByParts.{dependencies_of_bytes, table_of_bytes};
+ghost use Rattle.index_reader.specs.inner.Rows.{braced, row_texts, row_views};
 
 use crate::fault::LineFault;
 use crate::item::ItemRead;
@@ -185,7 +185,7 @@ fn table_of_rows(
 }
 
 /// The table that features make that are read together.
-#[tactic(auto, unfolding(crate::specs::ByParts::table_of_bytes))]
+#[tactic(auto, unfolding(crate::specs::inner::ByParts::table_of_bytes))]
 fn table_of_bytes(
     alloc: Global,
     bytes: &[u8],

@@ -5,7 +5,7 @@
 //! is kept for the next one. Each other line gives no record here, and is read as a whole.
 
 ghost use Rattle.std.specs.Prelude.{◌≡◌, IfOk, Ok};
-ghost use Rattle.index_reader.specs.ByParts.{IsCut, record_of_parts};
+ghost use Rattle.index_reader.specs.inner.ByParts.{IsCut, record_of_parts};
 ghost use Rattle.index_reader.specs.Records.{unchecked_of_line};
 ghost use Rattle.index_reader.specs.Views.{record_view};
 
@@ -56,7 +56,7 @@ pub(crate) fn read_by_parts<'a>(
 }
 
 /// What the parts of a line say together.
-#[tactic(auto, unfolding(crate::specs::ByParts::record_of_parts))]
+#[tactic(auto, unfolding(crate::specs::inner::ByParts::record_of_parts))]
 fn read_parts<'a>(
     alloc: Global,
     line: &LineParts<'a>,

@@ -2,12 +2,12 @@
 
 ghost use Rattle.std.specs.Prelude.{◌≡◌, IfOk, Ok, option_map};
 ghost use Rattle.model.specs.Outcome.{Gives};
-ghost use Rattle.features.specs.Tables.{dep_name_view};
+ghost use Rattle.features.specs.inner.Tables.{dep_name_view};
 ghost use Rattle.features.specs.Views.{dependency_view};
-ghost use Rattle.index_reader.specs.ByParts.{item_of_bytes, taking_part};
-ghost use Rattle.index_reader.specs.Plain.{shape_of_item};
+ghost use Rattle.index_reader.specs.inner.ByParts.{item_of_bytes, taking_part};
+ghost use Rattle.index_reader.specs.inner.Plain.{shape_of_item};
 ghost use Rattle.index_reader.specs.Shapes.{wants_memory};
-ghost use Rattle.index_reader.specs.ShapeViews.{line_dependency_view};
+ghost use Rattle.index_reader.specs.inner.ShapeViews.{line_dependency_view};
 
 use crate::fault::{LineFault, SkipReason};
 use crate::known::KnownDependencies;
@@ -36,7 +36,7 @@ impl<'a> ItemRead<'a> {
     ///
     /// # Errors
     /// `Skipped` where they are none, or one of another registry.
-    #[tactic(auto, unfolding(crate::specs::ByParts::item_of_bytes))]
+    #[tactic(auto, unfolding(crate::specs::inner::ByParts::item_of_bytes))]
     pub(crate) fn of(
         alloc: Global,
         bytes: &'a [u8],

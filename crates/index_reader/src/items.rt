@@ -6,10 +6,10 @@
 //! in an item or in its texts: then what was cut off is no dependency, and the line is read as a whole.
 
 ghost use Rattle.std.specs.Prelude.{◌≡◌, ◌≤◌, ◌++◌, IfOk, IfSome, codes, length};
-ghost use Rattle.features.specs.Tables.{dep_names_view};
+ghost use Rattle.features.specs.inner.Tables.{dep_names_view};
 ghost use Rattle.features.specs.Views.{dependency_views};
-ghost use Rattle.trees.specs.Parts.{between_commas, list_of};
-ghost use Rattle.index_reader.specs.Items.{item_names, item_texts, those_taking_part};
+ghost use Rattle.trees.specs.inner.Parts.{between_commas, list_of};
+ghost use Rattle.index_reader.specs.inner.Items.{item_names, item_texts, those_taking_part};
 
 use crate::fault::{LineFault, SkipReason};
 use crate::item::ItemRead;

@@ -1,11 +1,11 @@
 //! The dependencies that were read, so that those that lines write alike are read and kept once.
 
 ghost use Rattle.std.specs.Prelude.{◌≡◌, IfOk, IfSome, IsTrue, map, unwrap_or};
-ghost use Rattle.features.specs.NameTexts.{text_bytes};
+ghost use Rattle.features.specs.inner.NameTexts.{text_bytes};
 ghost use Rattle.model.specs.Summary.{same_text};
 ghost use Rattle.features.specs.Views.{text_views};
-ghost use Rattle.index_reader.specs.Known.{IsMadeOf, IsRequirement, IsSaid, same_flags, same_names, same_parts};
-ghost use Rattle.index_reader.specs.ShapeViews.{part_view};
+ghost use Rattle.index_reader.specs.inner.Known.{IsMadeOf, IsRequirement, IsSaid, same_flags, same_names, same_parts};
+ghost use Rattle.index_reader.specs.inner.ShapeViews.{part_view};
 
 use crate::known_requirements::KnownRequirements;
 use crate::made::{are_texts, kept_texts};

@@ -1,9 +1,9 @@
 //! The requirements that were read, so that each text is read once and dependencies share what it is.
 
 ghost use Rattle.std.specs.Prelude.{◌≡◌, IfOk, IfSome};
-ghost use Rattle.features.specs.NameTexts.{text_bytes};
+ghost use Rattle.features.specs.inner.NameTexts.{text_bytes};
 ghost use Rattle.model.specs.Summary.{same_text};
-ghost use Rattle.index_reader.specs.Known.{IsRequirement};
+ghost use Rattle.index_reader.specs.inner.Known.{IsRequirement};
 
 use features::{NameText, Requirement};
 use std::alloc::{AllocError, Global};

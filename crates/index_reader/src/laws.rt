@@ -5,7 +5,7 @@ ghost use Rattle.std.specs.List.{All, AllPairs};
 ghost use Rattle.std.specs.declared.cmp.Ordering.TheVariants.{Equal};
 ghost use Rattle.model.specs.Order.{precedence};
 ghost use Rattle.model.specs.Summary.{KnowsFeatures};
-ghost use Rattle.features.specs.Valid.{BringsValid};
+ghost use Rattle.features.specs.inner.Valid.{BringsValid};
 ghost use Rattle.index_reader.specs.Files.{records_of_file};
 
 /// No two records of a file are of equal precedence.

@@ -12,7 +12,8 @@ ghost use Rattle.index_reader.specs.Records.{unless, semver_or, required, requir
 ghost use Rattle.index_reader.specs.Records.{dependency_read};
 ghost use Rattle.index_reader.specs.Records.{dependencies_read, is_of_index, checked};
 ghost use Rattle.index_reader.specs.Records.{unchecked_of_shape, unchecked_of_line, record_of_line};
-ghost use Rattle.index_reader.specs.ShapeViews.{line_dependency_view, line_dependency_views, part_view, shape_view};
+ghost use Rattle.index_reader.specs.inner.ShapeViews.{line_dependency_view, line_dependency_views, part_view};
+ghost use Rattle.index_reader.specs.inner.ShapeViews.{shape_view};
 ghost use Rattle.index_reader.specs.Views.{record_view, required_view, required_views};
 
 use crate::by_parts::read_by_parts;

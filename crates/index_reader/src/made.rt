@@ -1,16 +1,16 @@
 //! The feature table of the line before, which the next line of a package mostly has too.
 
 ghost use Rattle.std.specs.Prelude.{◌≡◌, Ok, IfOk, IfSome, IsTrue, map};
-ghost use Rattle.features.specs.NameTexts.{text_bytes};
+ghost use Rattle.features.specs.inner.NameTexts.{text_bytes};
 ghost use Rattle.std.specs.Cmp.Lexicographic.{pointwise};
 ghost use Rattle.std.specs.List.{list_all, zip};
 ghost use Rattle.model.specs.Outcome.{Gives};
 ghost use Rattle.model.specs.Summary.{same_text};
-ghost use Rattle.features.specs.Tables.{dep_name_view, dep_names_view};
+ghost use Rattle.features.specs.inner.Tables.{dep_name_view, dep_names_view};
 ghost use Rattle.index_reader.specs.Shapes.{wants_memory};
-ghost use Rattle.index_reader.specs.Made.{feature_text_view, feature_text_views, same_name, same_feature, Makes};
+ghost use Rattle.index_reader.specs.inner.Made.{feature_text_view, feature_text_views, same_name, same_feature, Makes};
 ghost use Rattle.features.specs.Views.{text_views};
-ghost use Rattle.index_reader.specs.ShapeViews.{feature_view, feature_views, line_dependency_views, shape_view};
+ghost use Rattle.index_reader.specs.inner.ShapeViews.{feature_view, feature_views, line_dependency_views, shape_view};
 ghost use Rattle.index_reader.specs.Written.{dep_names_of, features_of};
 
 use crate::by_parts::PartsBefore;

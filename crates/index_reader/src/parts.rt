@@ -2,11 +2,11 @@
 
 ghost use Rattle.std.specs.Prelude.{◌≡◌, ℕ, List, Option, Some, option_map};
 ghost use Rattle.serde_json.specs.Data.{Data, no_members};
-ghost use Rattle.trees.specs.Parts.{members_put};
+ghost use Rattle.trees.specs.inner.Parts.{members_put};
 ghost use Rattle.trees.specs.Trees.{left, tree_view};
-ghost use Rattle.index_reader.specs.PartMembers.{value_put, values_in};
+ghost use Rattle.index_reader.specs.inner.PartMembers.{value_put, values_in};
 ghost use Rattle.index_reader.specs.Shapes.{unless_null, values_by, values_of};
-ghost use Rattle.index_reader.specs.ShapeViews.{values_view};
+ghost use Rattle.index_reader.specs.inner.ShapeViews.{values_view};
 
 use trees::{Entries, Tree, entries, is_null, next_entry};
 

@@ -7,11 +7,11 @@
 ghost use Rattle.std.specs.Prelude.{◌≡◌, ◌++◌, IfOk, IfSome, Ok, true, option_map, codes};
 ghost use Rattle.serde_json.specs.Data.{string};
 ghost use Rattle.features.specs.Views.{text_views};
-ghost use Rattle.trees.specs.Parts.{is_plain};
-ghost use Rattle.index_reader.specs.Plain.{IsPlainItem, are_plain, flag_text, is_plain_or_null, item_end, quoted};
-ghost use Rattle.index_reader.specs.Plain.{quoted_list, shape_of_item, text_or_null};
+ghost use Rattle.trees.specs.inner.Parts.{is_plain};
+ghost use Rattle.index_reader.specs.inner.Plain.{IsPlainItem, are_plain, flag_text, is_plain_or_null, item_end, quoted};
+ghost use Rattle.index_reader.specs.inner.Plain.{quoted_list, shape_of_item, text_or_null};
 ghost use Rattle.index_reader.specs.Shapes.{package_name_of, package_name_or_none};
-ghost use Rattle.index_reader.specs.ShapeViews.{line_dependency_view};
+ghost use Rattle.index_reader.specs.inner.ShapeViews.{line_dependency_view};
 
 use crate::shape::{DependencyShape, PartShape, kind_of_text};
 use crate::split::{behind, plain_text};

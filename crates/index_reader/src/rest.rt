@@ -4,7 +4,7 @@ ghost use Rattle.std.specs.Prelude.{◌≡◌, ◌∷◌, IfOk, Ok, not, option_
 ghost use Rattle.model.specs.Outcome.{Gives};
 ghost use Rattle.classes.specs.RustVersions.{rust_version_view};
 ghost use Rattle.trees.specs.Trees.{tree_view};
-ghost use Rattle.index_reader.specs.ByParts.{lacks, lacks_parts, rest_of, rest_of_bytes};
+ghost use Rattle.index_reader.specs.inner.ByParts.{lacks, lacks_parts, rest_of, rest_of_bytes};
 ghost use Rattle.index_reader.specs.Shapes.{data_of_bytes, value_at};
 
 use crate::fault::{LineFault, SkipReason};
@@ -62,7 +62,7 @@ fn read_rest<'a>(
     rest_in(bytes, &root(&tape))
 }
 
-#[tactic(auto, unfolding(crate::specs::ByParts::rest_of))]
+#[tactic(auto, unfolding(crate::specs::inner::ByParts::rest_of))]
 fn rest_in<'a>(bytes: &'a [u8], rest: &Tree<'_, '_>) -> Result<LineRest<'a>, LineFault>
     requires { data_of_bytes (123 ∷ bytes.now) ≡ Ok (tree_view rest.now) }
     ensures { IfOk result (λ r. r.bytes.now ≡ bytes.entry.now) }

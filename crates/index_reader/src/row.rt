@@ -4,9 +4,9 @@ ghost use Rattle.std.specs.Prelude.{◌≡◌, IfOk, IfSome, true};
 ghost use Rattle.model.specs.Outcome.{Gives};
 ghost use Rattle.features.specs.EntryViews.{entry_views};
 ghost use Rattle.features.specs.Views.{text_views};
-ghost use Rattle.trees.specs.Parts.{is_plain, member_text};
-ghost use Rattle.index_reader.specs.ByParts.{IsRow, row_of_member};
-ghost use Rattle.index_reader.specs.Plain.{texts_of_item};
+ghost use Rattle.trees.specs.inner.Parts.{is_plain, member_text};
+ghost use Rattle.index_reader.specs.inner.ByParts.{IsRow, row_of_member};
+ghost use Rattle.index_reader.specs.inner.Plain.{texts_of_item};
 ghost use Rattle.index_reader.specs.Shapes.{wants_memory};
 
 use crate::fault::{LineFault, SkipReason};
@@ -59,7 +59,7 @@ fn key_and_value<'a>(bytes: &'a [u8]) -> Option<(&'a str, &'a [u8])>
 }
 
 /// The feature that these are as a name and a list.
-#[tactic(auto, unfolding(crate::specs::ByParts::row_of_member, crate::specs::Written::feature_read))]
+#[tactic(auto, unfolding(crate::specs::inner::ByParts::row_of_member, crate::specs::Written::feature_read))]
 fn row_of_member(
     alloc: Global,
     key: &str,

@@ -7,9 +7,9 @@
 //! by their names, for of a name that comes twice the last one counts.
 
 ghost use Rattle.std.specs.Prelude.{◌≡◌, ◌≤◌, ◌++◌, [], IfOk, IfSome, codes, length, true};
-ghost use Rattle.features.specs.Tables.{rows_of};
-ghost use Rattle.trees.specs.Parts.{between_commas, keys_rise};
-ghost use Rattle.index_reader.specs.Rows.{braced, row_texts, row_views};
+ghost use Rattle.features.specs.inner.Tables.{rows_of};
+ghost use Rattle.trees.specs.inner.Parts.{between_commas, keys_rise};
+ghost use Rattle.index_reader.specs.inner.Rows.{braced, row_texts, row_views};
 
 use crate::fault::{LineFault, SkipReason};
 use crate::row::RowRead;

@@ -8,8 +8,9 @@ ghost use Rattle.index_reader.specs.Shapes.{package_name_or_none, kind_of, kind_
 ghost use Rattle.index_reader.specs.Shapes.{dependency_of, dependencies_in, needed_dependencies, features_in};
 ghost use Rattle.index_reader.specs.Shapes.{features_or_none, rust_version_in, shape_of};
 ghost use Rattle.classes.specs.RustVersions.{rust_version_view};
-ghost use Rattle.index_reader.specs.ShapeViews.{feature_views, part_view, line_dependency_view, line_dependency_views};
-ghost use Rattle.index_reader.specs.ShapeViews.{shape_view, values_view};
+ghost use Rattle.index_reader.specs.inner.ShapeViews.{feature_views, part_view, line_dependency_view};
+ghost use Rattle.index_reader.specs.inner.ShapeViews.{line_dependency_views};
+ghost use Rattle.index_reader.specs.inner.ShapeViews.{shape_view, values_view};
 ghost use Rattle.trees.specs.Trees.{left_items, tree_view, entries_view, listed_view};
 
 use crate::fault::{LineFault, SkipReason};

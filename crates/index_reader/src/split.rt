@@ -6,8 +6,8 @@
 //! that stand between the parts may stand in one: then what was cut off isn't read on its own.
 
 ghost use Rattle.std.specs.Prelude.{◌≡◌, ◌≤◌, ◌++◌, IfSome, length, true};
-ghost use Rattle.trees.specs.Parts.{is_plain, is_plain_byte};
-ghost use Rattle.index_reader.specs.ByParts.{IsCut};
+ghost use Rattle.trees.specs.inner.Parts.{is_plain, is_plain_byte};
+ghost use Rattle.index_reader.specs.inner.ByParts.{IsCut};
 
 use features::PackageName;
 use memchr::{memchr, memmem};

@@ -7,8 +7,8 @@ ghost use Rattle.model.specs.Outcome.{Gives};
 ghost use Rattle.index_reader.specs.Shapes.{wants_memory, as_whole, data_of_bytes, needed, text_of};
 ghost use Rattle.index_reader.specs.Shapes.{optional, texts_in, texts_of, texts_or_none};
 ghost use Rattle.features.specs.Views.{text_views};
-ghost use Rattle.index_reader.specs.ByParts.{item_depth};
-ghost use Rattle.trees.specs.Parts.{data_within, part_depth};
+ghost use Rattle.index_reader.specs.inner.ByParts.{item_depth};
+ghost use Rattle.trees.specs.inner.Parts.{data_within, part_depth};
 ghost use Rattle.trees.specs.Trees.{left_items, text_view, tree_view};
 
 use crate::fault::{LineFault, SkipReason};

@@ -15,9 +15,9 @@ use Rattle.model.specs.Selection.{Class, class_of}
 use Rattle.model.specs.Vertices.{State, has_state, in_class}
 use Rattle.model.proofs.Lists.{all_first, all_rest, pairs_rest}
 use Rattle.model.proofs.Same.{class-same}
-use Rattle.lookups.specs.Ranges.{AreRising, is_above}
+use Rattle.lookups.specs.inner.Ranges.{AreRising, is_above}
 use Rattle.lookups.proofs.Pieces.{classes_rise, neither}
-use Rattle.instances.specs.FullTerms.{all_if_matched, has_if_matched}
+use Rattle.instances.specs.inner.FullTerms.{all_if_matched, has_if_matched}
 
 abbrev pub later_than_first : List Version → List Version
 later_than_first vs = take (length vs - 1) (drop 1 vs)

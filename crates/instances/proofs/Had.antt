@@ -17,10 +17,10 @@ use Rattle.catalogue.specs.Problems.{problem_in}
 use Rattle.catalogue.specs.Stores.{CatalogueView, candidates_at}
 use Rattle.catalogue.specs.Views.{Said, said, said_by}
 use Rattle.catalogue.specs.declared.candidate.Candidate as held
-use Rattle.lookups.specs.Ranges.{is_of}
+use Rattle.lookups.specs.inner.Ranges.{is_of}
 use Rattle.lookups.proofs.Classed.{class_is_of}
 use Rattle.refutations.specs.Causes.{terms_of_cause, of_feature}
-use Rattle.instances.specs.Keeping.{is_had}
+use Rattle.instances.specs.inner.Keeping.{is_had}
 
 pub had_is : (m : ManifestView) (c : CatalogueView) (name : List ℕ) (k : Class) (cs : List held.Candidate)
     → map said_by cs ≡ map said (filter (λ r. is_of k r.version) (candidates_at c name)) → (f : List ℕ)

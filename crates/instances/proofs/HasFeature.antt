@@ -20,8 +20,8 @@ use Rattle.manifest.specs.Manifests.{ManifestView}
 use Rattle.vertices.proofs.OrderLaws.{state_total}
 use Rattle.catalogue.specs.Problems.{problem_in}
 use Rattle.catalogue.specs.Stores.{CatalogueView, candidates_at, rows_by_name}
-use Rattle.lookups.specs.Matching.{is_lacking}
-use Rattle.lookups.specs.Ranges.{AreRising, is_of, versions_with}
+use Rattle.lookups.specs.inner.Matching.{is_lacking}
+use Rattle.lookups.specs.inner.Ranges.{AreRising, is_of, versions_with}
 use Rattle.catalogue.proofs.Lookups.{candidates_are}
 use Rattle.lookups.proofs.Classed.{with_classed, records_named}
 use Rattle.lookups.proofs.Pieces.{parts_filtered}

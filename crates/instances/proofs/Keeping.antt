@@ -18,10 +18,12 @@ use Rattle.model.specs.Selection.{Class}
 use Rattle.model.specs.Summary.{same_text}
 use Rattle.model.specs.Vertices.{State, same_class}
 use Rattle.model.proofs.Same.{both, class-same, text-same}
-use Rattle.instances.specs.Keeping.{AreAll, AreClasses, AreKept, AreMatched, AreRight, Ask, ClassAsk, IsKept}
-use Rattle.instances.specs.Keeping.{AreHad, AreHadBy, AreLacking, AreReleases, AreReleasesIn, AreThose, FeatureAsk}
-use Rattle.instances.specs.Keeping.{NameClass, all_releases, classes_in, is_had, lacking_in, same_ask, same_class_ask}
-use Rattle.instances.specs.Keeping.{same_feature_ask, same_name_class}
+use Rattle.instances.specs.inner.Keeping.{AreAll, AreClasses, AreKept, AreMatched, AreRight, Ask, ClassAsk, IsKept}
+use Rattle.instances.specs.inner.Keeping.{AreHad, AreHadBy, AreLacking, AreReleases, AreReleasesIn, AreThose}
+use Rattle.instances.specs.inner.Keeping.{FeatureAsk}
+use Rattle.instances.specs.inner.Keeping.{NameClass, all_releases, classes_in, is_had, lacking_in, same_ask}
+use Rattle.instances.specs.inner.Keeping.{same_class_ask}
+use Rattle.instances.specs.inner.Keeping.{same_feature_ask, same_name_class}
 use Rattle.instances.proofs.Requirements.{requirement-same}
 
 module _ {K V S : Type 0} (same : K → K → Bool) (Is : K → V → Type 0) where

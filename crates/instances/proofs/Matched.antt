@@ -9,9 +9,9 @@ use Rattle.model.specs.Selection.{Class}
 use Rattle.manifest.specs.Manifests.{ManifestView}
 use Rattle.catalogue.specs.Problems.{problem_in}
 use Rattle.catalogue.specs.Stores.{CatalogueView, candidates_at}
-use Rattle.lookups.specs.Ranges.{is_of, versions_with}
+use Rattle.lookups.specs.inner.Ranges.{is_of, versions_with}
 use Rattle.lookups.proofs.Classed.{with_classed}
-use Rattle.lookups.specs.Matching.{is_left}
+use Rattle.lookups.specs.inner.Matching.{is_left}
 
 pub left_is : (m : ManifestView) (c : CatalogueView) (d : Dependency) (k : Class) (vs : List Version)
     → map parts_of vs ≡ filter (is_of k) (map (λ r. r.version) (candidates_at c d.real_name))

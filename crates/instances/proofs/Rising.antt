@@ -13,7 +13,7 @@ use Rattle.model.specs.Order.{precedence, text_cmp, version_cmp}
 use Rattle.model.specs.Vertices.{absent, version}
 use Rattle.model.proofs.Lists.{all_first, all_rest, pairs_all, pairs_rest}
 use Rattle.vertices.specs.Orders.{state_cmp}
-use Rattle.lookups.specs.Ranges.{AreRising, versions_with}
+use Rattle.lookups.specs.inner.Ranges.{AreRising, versions_with}
 
 older : (v w : Parts) → precedence v w ≡ Less → version_cmp v w ≡ Less
 older v w h = ap (λ o. ordering_then o (text_cmp (parts_text v) (parts_text w))) h

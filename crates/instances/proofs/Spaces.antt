@@ -19,8 +19,8 @@ use Rattle.manifest.specs.Manifests.{ManifestView}
 use Rattle.refutations.specs.Causes.{dependency_at}
 use Rattle.catalogue.specs.Problems.{problem_in}
 use Rattle.catalogue.specs.Stores.{CatalogueView, candidates_at, rows_by_name}
-use Rattle.instances.specs.FullTerms.{classes_if, others, has_if_matched}
-use Rattle.lookups.specs.Ranges.{is_of}
+use Rattle.instances.specs.inner.FullTerms.{classes_if, others, has_if_matched}
+use Rattle.lookups.specs.inner.Ranges.{is_of}
 use Rattle.catalogue.proofs.Lookups.{candidates_are}
 use Rattle.lookups.proofs.Classed.{all_classed}
 use Rattle.lookups.proofs.Versions.{all-map}

@@ -1,3 +1,1 @@
-pub mod FullTerms
-pub mod Keeping
-pub mod KeptViews
+pub mod inner

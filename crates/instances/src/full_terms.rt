@@ -9,11 +9,11 @@ ghost use Rattle.model.specs.Vertices as model;
 ghost use Rattle.classes.specs.Classes.{class_view};
 ghost use Rattle.semver.specs.Identifiers.{parts_of};
 ghost use Rattle.features.specs.Views.{requirement_view};
-ghost use Rattle.instances.specs.FullTerms.{has_if_matched, others};
-ghost use Rattle.instances.specs.KeptViews.{problem_of};
-ghost use Rattle.lookups.specs.Views.{problem_view};
-ghost use Rattle.lookups.specs.TermViews.{term_view, term_views};
-ghost use Rattle.vertices.specs.RefViews.{owner_ref_view, vertex_ref_view};
+ghost use Rattle.instances.specs.inner.FullTerms.{has_if_matched, others};
+ghost use Rattle.instances.specs.inner.KeptViews.{problem_of};
+ghost use Rattle.lookups.specs.inner.Views.{problem_view};
+ghost use Rattle.lookups.specs.inner.TermViews.{term_view, term_views};
+ghost use Rattle.vertices.specs.inner.RefViews.{owner_ref_view, vertex_ref_view};
 
 use crate::kept::Kept;
 use classes::{Class, is_matched};
@@ -157,7 +157,7 @@ fn all_matched(versions: &[Version], requirement: &VersionReq, states: &StateSet
         .all(|version| has_if_matched(states, requirement, version))
 }
 
-#[tactic(auto, unfolding(crate::specs::FullTerms::has_if_matched))]
+#[tactic(auto, unfolding(crate::specs::inner::FullTerms::has_if_matched))]
 fn has_if_matched(states: &StateSet<'_>, requirement: &VersionReq, version: &Version) -> bool
     ensures { result ≡ has_if_matched states.now (requirement_view requirement.now) (parts_of version.now) }
 {

@@ -3,9 +3,9 @@
 ghost use Rattle.std.specs.Prelude.{◌≡◌, IfOk};
 ghost use Rattle.model.specs.Axioms.{without_full};
 ghost use Rattle.refutations.specs.Causes.{terms_of_cause};
-ghost use Rattle.instances.specs.KeptViews.{problem_of};
-ghost use Rattle.lookups.specs.CauseViews.{cause_view};
-ghost use Rattle.lookups.specs.TermViews.{term_views};
+ghost use Rattle.instances.specs.inner.KeptViews.{problem_of};
+ghost use Rattle.lookups.specs.inner.CauseViews.{cause_view};
+ghost use Rattle.lookups.specs.inner.TermViews.{term_views};
 
 use crate::full_terms::without_full;
 use crate::has_feature::feature_instance;

@@ -5,11 +5,11 @@ ghost use Rattle.std.specs.List.{list_all};
 ghost use Rattle.semver.specs.Identifiers.{parts_of};
 ghost use Rattle.classes.specs.Classes.{class_view};
 ghost use Rattle.features.specs.Views.{dependency_view};
-ghost use Rattle.lookups.specs.Matching.{is_release};
-ghost use Rattle.lookups.specs.Views.{problem_view};
-ghost use Rattle.features.specs.Texts.{has_text};
-ghost use Rattle.instances.specs.Keeping.{AreHad, AreKept, AreLacking, AreMatched, AreReleases};
-ghost use Rattle.instances.specs.Keeping.{left_in, some_in, taken_in};
+ghost use Rattle.lookups.specs.inner.Matching.{is_release};
+ghost use Rattle.lookups.specs.inner.Views.{problem_view};
+ghost use Rattle.features.specs.inner.Texts.{has_text};
+ghost use Rattle.instances.specs.inner.Keeping.{AreHad, AreKept, AreLacking, AreMatched, AreReleases};
+ghost use Rattle.instances.specs.inner.Keeping.{left_in, some_in, taken_in};
 
 use crate::features_had::features_had;
 use crate::matched_classes::matched_classes;
@@ -88,8 +88,8 @@ impl<'a> Kept<'a> {
     ghost use Rattle.model.specs.Vertices.{dep_classes};
     ghost use Rattle.std.specs.Prelude.{not, true, false};
     ghost use Rattle.refutations.specs.Causes.{has_class};
-    ghost use Rattle.instances.specs.Keeping.{AreAll, all_releases, is_had, lacking_in};
-    ghost use Rattle.instances.specs.KeptViews.{problem_of};
+    ghost use Rattle.instances.specs.inner.Keeping.{AreAll, all_releases, is_had, lacking_in};
+    ghost use Rattle.instances.specs.inner.KeptViews.{problem_of};
 
     /// Nothing is kept yet.
     pub fn new(alloc: Global, problem: Problem<'a>) -> Kept<'a>

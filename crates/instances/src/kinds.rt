@@ -8,11 +8,11 @@ ghost use Rattle.model.specs.Selection.{class_of};
 ghost use Rattle.model.specs.Vertices as model;
 ghost use Rattle.refutations.specs.Causes as causes;
 ghost use Rattle.refutations.specs.Causes.{feature_holds, terms_of_cause};
-ghost use Rattle.vertices.specs.RefViews.{owner_ref_view};
-ghost use Rattle.lookups.specs.Views.{problem_view};
-ghost use Rattle.instances.specs.KeptViews.{problem_of};
-ghost use Rattle.lookups.specs.CauseViews.{cause_view};
-ghost use Rattle.lookups.specs.TermViews.{term_views};
+ghost use Rattle.vertices.specs.inner.RefViews.{owner_ref_view};
+ghost use Rattle.lookups.specs.inner.Views.{problem_view};
+ghost use Rattle.instances.specs.inner.KeptViews.{problem_of};
+ghost use Rattle.lookups.specs.inner.CauseViews.{cause_view};
+ghost use Rattle.lookups.specs.inner.TermViews.{term_views};
 
 use crate::has_feature::feature_terms;
 use crate::kept::Kept;

@@ -2,11 +2,11 @@
 
 ghost use Rattle.std.specs.Prelude.{◌≡◌, ◌<◌, ◌&&◌, IfOk, List, length};
 ghost use Rattle.features.specs.Views.{dependency_view, requirement_view};
-ghost use Rattle.lookups.specs.Views.{problem_view};
-ghost use Rattle.lookups.specs.Ranges.{AreRising};
+ghost use Rattle.lookups.specs.inner.Views.{problem_view};
+ghost use Rattle.lookups.specs.inner.Ranges.{AreRising};
 ghost use Rattle.model.specs.Vertices.{State, dep_classes};
-ghost use Rattle.instances.specs.FullTerms.{all_if_matched};
-ghost use Rattle.instances.specs.Keeping.{AreAll, all_classes};
+ghost use Rattle.instances.specs.inner.FullTerms.{all_if_matched};
+ghost use Rattle.instances.specs.inner.Keeping.{AreAll, all_classes};
 
 use classes::{Class, is_matched};
 use features::DependencyParts;

@@ -8,12 +8,12 @@ ghost use Rattle.model.specs.Axioms.{at, matched, versions_that};
 ghost use Rattle.model.specs.Vertices as model;
 ghost use Rattle.refutations.specs.Causes as causes;
 ghost use Rattle.refutations.specs.Causes.{terms_of_cause};
-ghost use Rattle.vertices.specs.RefViews.{state_ref_views, owner_ref_view};
-ghost use Rattle.lookups.specs.Ranges.{versions_with};
-ghost use Rattle.lookups.specs.Views.{problem_view};
-ghost use Rattle.lookups.specs.TermViews.{term_view, term_views};
+ghost use Rattle.vertices.specs.inner.RefViews.{state_ref_views, owner_ref_view};
+ghost use Rattle.lookups.specs.inner.Ranges.{versions_with};
+ghost use Rattle.lookups.specs.inner.Views.{problem_view};
+ghost use Rattle.lookups.specs.inner.TermViews.{term_view, term_views};
 ghost use Rattle.semver.specs.EvalViews.{matches_views};
-ghost use Rattle.instances.specs.KeptViews.{problem_of};
+ghost use Rattle.instances.specs.inner.KeptViews.{problem_of};
 
 use crate::kept::{Kept, Number};
 use crate::terms::led_term;

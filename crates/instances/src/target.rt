@@ -9,11 +9,11 @@ ghost use Rattle.model.specs.Axioms.{absent_or, at, matched};
 ghost use Rattle.model.specs.Vertices as model;
 ghost use Rattle.refutations.specs.Causes as causes;
 ghost use Rattle.refutations.specs.Causes.{terms_of_cause};
-ghost use Rattle.vertices.specs.RefViews.{state_ref_views, owner_ref_view};
-ghost use Rattle.lookups.specs.Ranges.{AreRising, versions_with};
-ghost use Rattle.lookups.specs.TermViews.{term_view, term_views};
-ghost use Rattle.lookups.specs.Matching.{is_left, is_release};
-ghost use Rattle.instances.specs.KeptViews.{problem_of};
+ghost use Rattle.vertices.specs.inner.RefViews.{state_ref_views, owner_ref_view};
+ghost use Rattle.lookups.specs.inner.Ranges.{AreRising, versions_with};
+ghost use Rattle.lookups.specs.inner.TermViews.{term_view, term_views};
+ghost use Rattle.lookups.specs.inner.Matching.{is_left, is_release};
+ghost use Rattle.instances.specs.inner.KeptViews.{problem_of};
 
 use crate::kept::{Kept, Number};
 use crate::terms::led_term;

@@ -9,8 +9,8 @@ ghost use Rattle.model.specs.Axioms.{at, owner_holds};
 ghost use Rattle.model.specs.Selection.{class_of};
 ghost use Rattle.model.specs.Vertices as model;
 ghost use Rattle.vertices.specs.Orders.{state_cmp};
-ghost use Rattle.vertices.specs.RefViews.{state_ref_view, state_ref_views, owner_ref_view, vertex_ref_view};
-ghost use Rattle.lookups.specs.TermViews.{term_view};
+ghost use Rattle.vertices.specs.inner.RefViews.{state_ref_view, state_ref_views, owner_ref_view, vertex_ref_view};
+ghost use Rattle.lookups.specs.inner.TermViews.{term_view};
 
 use classes::Class;
 use features::{DependencyParts, FeatureName, PackageName};

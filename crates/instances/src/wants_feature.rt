@@ -5,9 +5,9 @@ ghost use Rattle.semver.specs.Identifiers.{parts_of};
 ghost use Rattle.classes.specs.Classes.{class_view};
 ghost use Rattle.refutations.specs.Causes as causes;
 ghost use Rattle.refutations.specs.Causes.{terms_of_cause};
-ghost use Rattle.vertices.specs.RefViews.{owner_ref_view};
-ghost use Rattle.lookups.specs.Views.{problem_view};
-ghost use Rattle.lookups.specs.TermViews.{term_views};
+ghost use Rattle.vertices.specs.inner.RefViews.{owner_ref_view};
+ghost use Rattle.lookups.specs.inner.Views.{problem_view};
+ghost use Rattle.lookups.specs.inner.TermViews.{term_views};
 
 use crate::terms::{led_term, off_term, term};
 use classes::Class;

@@ -6,8 +6,8 @@
 //!
 //! A lock in which a merge left its marks is told as such, and its packages are those of both sides.
 //!
-//! What a side is stands in `specs/Sides`. Else nothing is stated: what is proved is which fault a lock has, and what
-//! is told beside it, or read of it, is only tested.
+//! What a side is stands in `specs/inner/Sides`. Else nothing is stated: what is proved is which fault a lock has, and
+//! what is told beside it, or read of it, is only tested.
 #![tactic(auto)]
 
 mod called;

@@ -2,8 +2,8 @@
 
 ghost use Rattle.std.specs.Prelude.{◌≡◌, ◌++◌, IfOk, OnOk, map};
 ghost use Rattle.std.specs.List.{slice_split};
-ghost use Rattle.lock_faults.specs.Sides.{begins, ends_line, mark_of, part_after, has_part, is_kept, line_of};
-ghost use Rattle.lock_faults.specs.Sides.{side_of, side_of_lines};
+ghost use Rattle.lock_faults.specs.inner.Sides.{begins, ends_line, mark_of, part_after, has_part, is_kept, line_of};
+ghost use Rattle.lock_faults.specs.inner.Sides.{side_of, side_of_lines};
 ghost use Rattle.lock_faults.specs.declared.marks.Part.TheVariants.{Both};
 
 use std::alloc::{AllocError, Global};
@@ -52,7 +52,7 @@ fn lines_in(alloc: Global, bytes: &[u8]) -> Result<Vec<&[u8]>, AllocError>
     bytes.split(|byte| *byte == b'\n').collect(alloc)
 }
 
-#[tactic(auto, unfolding(crate::specs::Sides::side_of_lines))]
+#[tactic(auto, unfolding(crate::specs::inner::Sides::side_of_lines))]
 fn side_of_lines(alloc: Global, lines: &[&[u8]], side: Side) -> Result<Vec<u8>, AllocError>
     ensures { IfOk result (λ v. v.items ≡ side_of_lines side Both (map (λ x. x.now) lines.now)) }
 {

@@ -16,10 +16,10 @@ use Rattle.model.specs.Content.{Package, Content, same_version}
 use Rattle.model.specs.Optional.{passes}
 use Rattle.model.specs.Order.{text_cmp, version_cmp}
 use Rattle.model.specs.Summary.{same_text}
-use Rattle.lockfile.specs.Search.{IsOrdered, IsRead, named_cmp, versioned_cmp, wanted_cmp, is_wanted}
+use Rattle.lockfile.specs.inner.Search.{IsOrdered, IsRead, named_cmp, versioned_cmp, wanted_cmp, is_wanted}
 use Rattle.lockfile.specs.Spelling.{named, versioned}
-use Rattle.lockfile.specs.Views.{package_view, package_views}
-use Rattle.lockfile.specs.Written.{AreRead}
+use Rattle.lockfile.specs.inner.Views.{package_view, package_views}
+use Rattle.lockfile.specs.inner.Written.{AreRead}
 use Rattle.lockfile.specs.declared.package.Package.{Package as Locked}
 use Rattle.lockfile.specs.declared.meaning.Wanted.{Wanted}
 use Rattle.model.proofs.PackageOrder.{version_total}

@@ -17,7 +17,7 @@ use Rattle.model.specs.WellFormed.{IsContent}
 use Rattle.lockfile.specs.Locks.{Unlinked, locked_packages, linked, lists_of, list_of, places_meant, place_meant}
 use Rattle.lockfile.specs.Locks.{ordered_places, only, places, places_from, or_else, is_form, is_form_without_source}
 use Rattle.model.specs.Sorting.{in_order, has_alike}
-use Rattle.lockfile.specs.Search.{IsOrdered}
+use Rattle.lockfile.specs.inner.Search.{IsOrdered}
 use Rattle.lockfile.specs.declared.fault.LockFault.{LockFault}
 use Rattle.lockfile.specs.declared.fault.LockFault.TheVariants.{LockShape}
 use Rattle.lockfile.proofs.PlaceOrder.{repeats}

@@ -17,7 +17,7 @@ use Rattle.model.specs.Content.{Package, Content, same_option}
 use Rattle.model.specs.Order.{text_cmp, version_cmp, source_cmp}
 use Rattle.lockfile.specs.Locks.{version_form, source_form, is_source_form, is_form, is_form_without_source}
 use Rattle.lockfile.specs.Locks.{places_from, places, only, or_else, place_meant}
-use Rattle.lockfile.specs.Search.{IsRead, is_named, is_versioned, is_sourced}
+use Rattle.lockfile.specs.inner.Search.{IsRead, is_named, is_versioned, is_sourced}
 use Rattle.model.proofs.PackageOrder.{version_total}
 use Rattle.lockfile.proofs.PackageOrder.{then-eq, text-eq, source-eq, version-tie}
 use Rattle.model.proofs.Sorting.{each-weaker}

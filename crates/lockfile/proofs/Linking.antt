@@ -3,7 +3,7 @@ use Rattle.std.proofs.Common.{◌≡◌, ℕ, List, [], ◌∷◌, map, Vec, ref
 use Rattle.std.specs.List.{zip}
 use Rattle.std.specs.declared.alloc.Global.{Global}
 use Rattle.lockfile.specs.Locks.{linked}
-use Rattle.lockfile.specs.Views.{unlinked_view, unlinked_views, list_views}
+use Rattle.lockfile.specs.inner.Views.{unlinked_view, unlinked_views, list_views}
 use Rattle.lockfile.specs.declared.packages.UnlinkedPackage.{UnlinkedPackage}
 
 pub linked-zip : (ps : List UnlinkedPackage) (lists : List (Vec ℕ Global))

@@ -5,7 +5,7 @@ use Rattle.std.specs.Ordering.{ordering_reverse}
 use Rattle.std.specs.declared.cmp.Ordering.TheVariants.{Less, Equal}
 use Rattle.std.proofs.lemmas.Cmp.{nat_list_cmp_total, on_total, then_total}
 use Rattle.lockfile.specs.Spelling.{listed_source_cmp}
-use Rattle.lockfile.specs.Written.{Written, written_cmp}
+use Rattle.lockfile.specs.inner.Written.{Written, written_cmp}
 
 source-flips : (a b : Option (List ℕ)) → listed_source_cmp a b ≡ ordering_reverse (listed_source_cmp b a)
 source-flips None None = refl

@@ -15,9 +15,9 @@ use Rattle.model.specs.Order.{text_cmp, version_cmp, package_cmp}
 use Rattle.model.specs.Summary.{same_text}
 use Rattle.lockfile.specs.Locks.{version_form, is_form, is_form_without_source, places_from, places, only, or_else}
 use Rattle.lockfile.specs.Locks.{place_meant}
-use Rattle.lockfile.specs.Search.{IsOrdered, IsRead, is_named, is_versioned, is_sourced}
+use Rattle.lockfile.specs.inner.Search.{IsOrdered, IsRead, is_named, is_versioned, is_sourced}
 use Rattle.lockfile.specs.Spelling.{named, versioned, longest_form, dependency_text}
-use Rattle.lockfile.specs.Written.{AreRead}
+use Rattle.lockfile.specs.inner.Written.{AreRead}
 use Rattle.lockfile.proofs.Alone.{both-ways, version-ways, filter-agree, some-pass}
 use Rattle.lockfile.proofs.Forms.{meant-name, meant-version, meant-source, none}
 use Rattle.model.proofs.PackageOrder.{package_total, version_total}

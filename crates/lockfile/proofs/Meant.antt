@@ -7,8 +7,8 @@ use Rattle.semver.specs.declared.error.Error.{Error}
 use Rattle.model.specs.Outcome.{Gives, Faults}
 use Rattle.lockfile.specs.Locks.{wants_memory, checked_version, version_read, place_meant, only, places, or_else}
 use Rattle.lockfile.specs.Locks.{locked_packages}
-use Rattle.lockfile.specs.Search.{HasNoSpace, is_named, is_versioned, is_sourced}
-use Rattle.lockfile.specs.Views.{unlinked_views}
+use Rattle.lockfile.specs.inner.Search.{HasNoSpace, is_named, is_versioned, is_sourced}
+use Rattle.lockfile.specs.inner.Views.{unlinked_views}
 use Rattle.lockfile.specs.declared.fault.LockFault.{LockFault}
 use Rattle.lockfile.specs.declared.fault.LockFault.TheVariants.{LockShape}
 use Rattle.lockfile.specs.declared.packages.UnlinkedPackage.{UnlinkedPackage}

@@ -19,14 +19,14 @@ use Rattle.model.specs.Content.{Package, same_version, same_option}
 use Rattle.model.specs.Order.{text_cmp, precedence, version_cmp, source_cmp, package_cmp}
 use Rattle.lockfile.specs.Locks.{Unlinked, is_alike, unlinked_alike, unlinked_cmp, ordered_packages, locked_packages}
 use Rattle.model.specs.Sorting.{has_alike}
-use Rattle.lockfile.specs.Views.{unlinked_view, unlinked_views}
+use Rattle.lockfile.specs.inner.Views.{unlinked_view, unlinked_views}
 use Rattle.lockfile.specs.declared.fault.LockFault.TheVariants.{LockShape}
 use Rattle.lockfile.specs.declared.packages.UnlinkedPackage.{UnlinkedPackage}
 use Rattle.model.proofs.PackageOrder.{version_total, package_total}
 use Rattle.model.proofs.Same.{version-refl, version-same}
 use Rattle.model.proofs.Sorting.{has_alike-agrees, ordered-run, alike-run}
 use Rattle.model.proofs.Tests.{one_test}
-use Rattle.lockfile.specs.Search.{IsRead, IsOrdered}
+use Rattle.lockfile.specs.inner.Search.{IsRead, IsOrdered}
 
 -- ---- where they tie
 

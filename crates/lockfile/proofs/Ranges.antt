@@ -18,9 +18,9 @@ use Rattle.model.specs.Content.{Package, Content}
 use Rattle.model.specs.Optional.{passes}
 use Rattle.model.specs.Order.{text_cmp, version_cmp, source_cmp, package_cmp}
 use Rattle.lockfile.specs.Locks.{locked_packages, only, places, places_from}
-use Rattle.lockfile.specs.Views.{unlinked_views, locked_view, locked_views}
+use Rattle.lockfile.specs.inner.Views.{unlinked_views, locked_view, locked_views}
 use Rattle.lockfile.specs.declared.packages.UnlinkedPackage.{UnlinkedPackage}
-use Rattle.lockfile.specs.Search.{IsOrdered, wanted_cmp, is_wanted}
+use Rattle.lockfile.specs.inner.Search.{IsOrdered, wanted_cmp, is_wanted}
 use Rattle.lockfile.specs.declared.meaning.Wanted.{Wanted}
 use Rattle.lockfile.specs.declared.meaning.Wanted.TheVariants.{Name, Version, Source}
 use Rattle.model.proofs.PackageOrder.{version_total, source_total}

@@ -19,7 +19,7 @@ use Rattle.lockfile.specs.Locks.{plain_at, dependencies_at, unlinked_of, unlinke
 use Rattle.lockfile.specs.Locks.{unlinked_alike, unlinked_cmp, ordered_packages, locked_packages, lists_of, content_of}
 use Rattle.lockfile.specs.Locks.{content_of_table, content_of_bytes, table_of_bytes, most_bytes}
 use Rattle.model.specs.Sorting.{has_alike, in_order}
-use Rattle.lockfile.specs.Search.{IsOrdered, IsRead}
+use Rattle.lockfile.specs.inner.Search.{IsOrdered, IsRead}
 use Rattle.lockfile.specs.declared.fault.LockFault.TheVariants.{LockShape, TooLarge}
 use Rattle.lockfile.proofs.Contents.{bind-ok, ok-same, linked-content}
 use Rattle.lockfile.proofs.PackageOrder.{package-eq, unlinked_total, locked-sorted}

@@ -12,7 +12,7 @@ use Rattle.semver.specs.Order.{parts}
 use Rattle.semver.specs.OrderLaws.{join_dots, join-parts}
 use Rattle.semver.specs.Parse.{Parts}
 use Rattle.features.specs.Names.{is_package_name, is_package_byte}
-use Rattle.lockfile.specs.Search.{HasNoSpace}
+use Rattle.lockfile.specs.inner.Search.{HasNoSpace}
 
 -- no byte is a space, by recursion
 abbrev pub Free : List ℕ → Type 0

@@ -11,7 +11,7 @@ use Rattle.semver.specs.Identifiers.{parts_text}
 use Rattle.model.specs.Content.{Package, Content}
 use Rattle.model.specs.Sorting.{in_order}
 use Rattle.lockfile.specs.Spelling.{head, dependency_text, listed_cmp, at_places, list_texts, block, spelling}
-use Rattle.lockfile.specs.Written.{written_of, written_cmp, written_list, written_block}
+use Rattle.lockfile.specs.inner.Written.{written_of, written_cmp, written_list, written_block}
 use Rattle.lockfile.proofs.Stable.{in_order-map}
 
 pub lines-more : {X Y : Type 0} (f : X → List ℕ) (v : Y → X) (xs : List Y) (i : ℕ) (d : Y) → i < length xs

@@ -3,7 +3,5 @@ pub use Rattle.model.specs.Content
 pub use Rattle.model.specs.WellFormed
 pub mod Locks
 pub mod Spelling
-pub mod Views
-pub mod Search
-pub mod Written
 pub mod Table
+pub mod inner

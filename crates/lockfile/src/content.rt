@@ -2,7 +2,7 @@
 
 ghost use Rattle.std.specs.Prelude.{◌≡◌};
 ghost use Rattle.model.specs.WellFormed.{IsContent};
-ghost use Rattle.lockfile.specs.Views.{package_views};
+ghost use Rattle.lockfile.specs.inner.Views.{package_views};
 
 use crate::package::Package;
 use std::marker::Model;
@@ -16,7 +16,7 @@ pub struct LockContent {
 impl Model for LockContent {
     ghost use Rattle.model.specs.Content.{Content};
     ghost use Rattle.model.specs.WellFormed.{IsContent};
-    ghost use Rattle.lockfile.specs.Views.{package_views};
+    ghost use Rattle.lockfile.specs.inner.Views.{package_views};
 
     ghost Value = { Content };
 

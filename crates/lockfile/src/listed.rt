@@ -3,7 +3,7 @@
 ghost use Rattle.std.specs.Prelude.{◌≡◌, IfOk, option_map, slice_get};
 ghost use Rattle.model.specs.Sorting.{in_order};
 ghost use Rattle.lockfile.specs.Spelling.{listed_source_cmp, at_places};
-ghost use Rattle.lockfile.specs.Written.{written_cmp, entry_views, listed_view, listed_views};
+ghost use Rattle.lockfile.specs.inner.Written.{written_cmp, entry_views, listed_view, listed_views};
 
 use crate::written_package::{Listed, WrittenPackage};
 use std::alloc::{AllocError, Global};

@@ -4,8 +4,8 @@ ghost use Rattle.std.specs.Prelude.{◌≡◌, IfOk, option_map};
 ghost use Rattle.model.specs.Order.{source_cmp, package_cmp};
 ghost use Rattle.model.specs.Outcome.{Gives};
 ghost use Rattle.lockfile.specs.Locks.{wants_memory, ordered_packages, ordered_places, locked_packages};
-ghost use Rattle.lockfile.specs.Search.{IsOrdered};
-ghost use Rattle.lockfile.specs.Views.{package_view, unlinked_views};
+ghost use Rattle.lockfile.specs.inner.Search.{IsOrdered};
+ghost use Rattle.lockfile.specs.inner.Views.{package_view, unlinked_views};
 
 use crate::fault::LockFault;
 use crate::package::Package;

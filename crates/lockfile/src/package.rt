@@ -24,7 +24,7 @@ pub struct Package {
 
 impl Package {
     ghost use Rattle.std.specs.Prelude.{◌≡◌, option_map};
-    ghost use Rattle.lockfile.specs.Views.{package_view};
+    ghost use Rattle.lockfile.specs.inner.Views.{package_view};
 
     /// The source, if the package has one.
     pub fn source(&self) -> Option<&str>

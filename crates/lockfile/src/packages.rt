@@ -4,7 +4,7 @@ ghost use Rattle.std.specs.Prelude.{◌≡◌};
 ghost use Rattle.toml.specs.View.{table_view, items_view};
 ghost use Rattle.model.specs.Outcome.{Gives};
 ghost use Rattle.lockfile.specs.Locks.{wants_memory, linked, unlinked_of, unlinked_in, packages_at};
-ghost use Rattle.lockfile.specs.Views.{package_view, unlinked_view, unlinked_views};
+ghost use Rattle.lockfile.specs.inner.Views.{package_view, unlinked_view, unlinked_views};
 
 use crate::fault::LockFault;
 use crate::package::Package;

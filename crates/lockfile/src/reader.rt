@@ -6,8 +6,8 @@ ghost use Rattle.toml.specs.View.{table_view};
 ghost use Rattle.model.specs.Outcome.{Gives};
 ghost use Rattle.lockfile.specs.Locks.{wants_memory, linked, locked_packages, content_of, content_of_table};
 ghost use Rattle.lockfile.specs.Locks.{content_of_bytes};
-ghost use Rattle.lockfile.specs.Search.{IsOrdered};
-ghost use Rattle.lockfile.specs.Views.{package_view, package_views, unlinked_view, unlinked_views, list_views};
+ghost use Rattle.lockfile.specs.inner.Search.{IsOrdered};
+ghost use Rattle.lockfile.specs.inner.Views.{package_view, package_views, unlinked_view, unlinked_views, list_views};
 
 use crate::content::LockContent;
 use crate::fault::LockFault;

@@ -3,7 +3,7 @@
 ghost use Rattle.std.specs.Prelude.{◌≡◌, ◌++◌, map, IfOk, OnOk, option_map};
 ghost use Rattle.std.specs.List.{flat_map};
 ghost use Rattle.lockfile.specs.Spelling.{key_line, optional_line, dependency_line, dependency_lines, spelling};
-ghost use Rattle.lockfile.specs.Written.{written_block, written_list, entry_view, entry_views, listed_views};
+ghost use Rattle.lockfile.specs.inner.Written.{written_block, written_list, entry_view, entry_views, listed_views};
 
 use crate::content::LockContent;
 use crate::listed::listed;

@@ -2,7 +2,7 @@
 use Rattle.std.proofs.Common.{◌≡◌, List, [], ◌∷◌, sym, subst}
 use Rattle.std.specs.List.Sorted.{IsStrictlySortedBy}
 use Rattle.vertices.specs.Orders.{state_cmp}
-use Rattle.vertices.specs.RefViews.{state_ref_views}
+use Rattle.vertices.specs.inner.RefViews.{state_ref_views}
 use Rattle.vertices.specs.declared.state.StateRef as declared
 
 pub one_rises : (s : declared.StateRef) (ss : List declared.StateRef) → ss ≡ s ∷ []

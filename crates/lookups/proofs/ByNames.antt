@@ -14,9 +14,9 @@ use Rattle.model.specs.Summary.{Dependency, Entry, feature, dependency, dependen
 use Rattle.model.proofs.Same.{text-refl, text-same}
 use Rattle.model.specs.Vertices.{owner_brings, version_of}
 use Rattle.refutations.specs.Causes.{enables, entries_of, is_unmatched}
-use Rattle.refutations.specs.Instances.{enabled_unmatched, first_place}
-use Rattle.lookups.specs.ByName.{AreGone, Names, PutsEntry, PutsGone, PutsNew, entry_named, is_gone}
-use Rattle.lookups.specs.ByName.{least_enabled, lesser, named, number_enabled}
+use Rattle.refutations.specs.inner.Instances.{enabled_unmatched, first_place}
+use Rattle.lookups.specs.inner.ByName.{AreGone, Names, PutsEntry, PutsGone, PutsNew, entry_named, is_gone}
+use Rattle.lookups.specs.inner.ByName.{least_enabled, lesser, named, number_enabled}
 use Rattle.lookups.proofs.Places.{from_start}
 
 -- ---- a value that is put where there was none

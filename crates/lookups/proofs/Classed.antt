@@ -14,7 +14,7 @@ use Rattle.model.proofs.Mapped.{any-map}
 use Rattle.manifest.specs.Manifests.{ManifestView}
 use Rattle.catalogue.specs.Problems.{problem_in}
 use Rattle.catalogue.specs.Stores.{CatalogueView, candidates_at}
-use Rattle.lookups.specs.Ranges.{is_of, versions_with}
+use Rattle.lookups.specs.inner.Ranges.{is_of, versions_with}
 use Rattle.catalogue.proofs.Lookups.{candidates_are}
 use Rattle.lookups.proofs.Versions.{all-map}
 

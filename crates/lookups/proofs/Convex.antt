@@ -1,6 +1,7 @@
 -- Of three versions that rise, with one pre-release or none, the middle one is matched where the others are.
 use Rattle.std.proofs.Common.{◌≡◌, ℕ, zero, suc, ◌+◌, ◌-◌, ◌<◌, ◌≤◌, ◌==◌, nat_lt, nat_le, Bool, true, false, not}
-use Rattle.std.proofs.Common.{cond, ◌&&◌, ◌||◌, List, [], ◌∷◌, ◌++◌, length, map, filter, take, drop, get_or, Option, Some}
+use Rattle.std.proofs.Common.{cond, ◌&&◌, ◌||◌, List, [], ◌∷◌, ◌++◌, length, map, filter, take, drop, get_or, Option}
+use Rattle.std.proofs.Common.{Some}
 use Rattle.std.proofs.Common.{None, Ordering, refl, sym, ap, ap₂, ◌∙◌, subst, arith, true≢false, inl, inr, ◌⊎◌}
 use Rattle.std.specs.Cmp.Lexicographic.{pointwise}
 use Rattle.std.specs.List.{list_all}
@@ -22,8 +23,8 @@ use Rattle.semver.specs.declared.Op.TheVariants as op
 use Rattle.semver.specs.declared.Version.{Version}
 use Rattle.model.specs.Order.{precedence}
 use Rattle.model.proofs.Same.{both}
-use Rattle.lookups.specs.Matching.{is_left, is_release, is_whole, is_whole_with}
-use Rattle.lookups.specs.Ranges.{AreRising}
+use Rattle.lookups.specs.inner.Matching.{is_left, is_release, is_whole, is_whole_with}
+use Rattle.lookups.specs.inner.Ranges.{AreRising}
 use Rattle.lookups.proofs.Pieces.{parts_filtered, skipped}
 
 join : (a b : Bool) → a ≡ true → b ≡ true → (a && b) ≡ true

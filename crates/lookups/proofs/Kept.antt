@@ -6,9 +6,9 @@ use Rattle.std.specs.Map.{lookup}
 use Rattle.std.proofs.lemmas.Option.{same_Some}
 use Rattle.model.specs.Vertices.{Owner}
 use Rattle.model.proofs.Same.{both, owner-same, text-same}
-use Rattle.vertices.specs.RefViews.{owner_ref_view}
+use Rattle.vertices.specs.inner.RefViews.{owner_ref_view}
 use Rattle.vertices.specs.declared.vertex.OwnerRef.{OwnerRef}
-use Rattle.lookups.specs.Numbers.{AreRight, IsOf, IsOfRow, Row, same_ref, same_row}
+use Rattle.lookups.specs.inner.Numbers.{AreRight, IsOf, IsOfRow, Row, same_ref, same_row}
 
 module _ {K V S : Type 0} (same : K → K → Bool) (Is : K → V → Type 0) where
   pub none_kept : (m : HashMap K V S) → IsEmpty m → AreRight same Is m

@@ -12,9 +12,9 @@ use Rattle.semver.specs.Parse.{Held, Parts}
 use Rattle.semver.specs.declared.Version.{Version}
 use Rattle.model.specs.Order.{precedence}
 use Rattle.model.proofs.Mapped.{any-map}
-use Rattle.catalogue.specs.Bounds.{is_beyond, is_short}
+use Rattle.catalogue.specs.inner.Bounds.{is_beyond, is_short}
 use Rattle.catalogue.proofs.Bounded.{beyond_after, not_beyond, not_short, short_before}
-use Rattle.lookups.specs.Ranges.{AreRising}
+use Rattle.lookups.specs.inner.Ranges.{AreRising}
 use Rattle.lookups.proofs.Pieces.{not_false, parted, parts_filtered, skipped}
 
 pub short_parted : (cs : List Held) (vs : List Version) → AreRising vs

@@ -16,7 +16,7 @@ use Rattle.refutations.proofs.InOrder.{sorted_pairs}
 use Rattle.vertices.specs.Orders.{state_cmp}
 use Rattle.vertices.proofs.OrderLaws.{state_total}
 use Rattle.catalogue.proofs.Found.{less-other, greater-other}
-use Rattle.vertices.specs.RefViews.{state_ref_view, state_ref_views}
+use Rattle.vertices.specs.inner.RefViews.{state_ref_view, state_ref_views}
 use Rattle.vertices.specs.declared.state.StateRef as declared
 
 -- what a search found, if it passes the test

@@ -1,11 +1,1 @@
-pub mod Matching
-pub mod Ranges
-pub mod Views
-pub mod CauseViews
-pub mod Sets
-pub mod TermViews
-pub mod Needs
-pub mod ByName
-pub mod Numbers
-pub mod NumbersViews
-pub mod NamedByTerms
+pub mod inner

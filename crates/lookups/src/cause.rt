@@ -3,7 +3,7 @@
 ghost use Rattle.std.specs.Prelude.{◌≡◌};
 ghost use Rattle.refutations.specs.Causes.{kind_of};
 ghost use Rattle.vertices.specs.Kinds.{kind_view};
-ghost use Rattle.lookups.specs.CauseViews.{cause_view};
+ghost use Rattle.lookups.specs.inner.CauseViews.{cause_view};
 
 use classes::Class;
 use features::{Entry, FeatureName, PackageName};

@@ -5,8 +5,8 @@ ghost use Rattle.std.specs.List.{find};
 ghost use Rattle.semver.specs.Identifiers.{parts_of};
 ghost use Rattle.features.specs.EntryViews.{entry_view, entry_views};
 ghost use Rattle.refutations.specs.Causes.{enables, entries_of};
-ghost use Rattle.lookups.specs.ByName.{AreFirst, PutsEntry, entry_named};
-ghost use Rattle.lookups.specs.NumbersViews.{problem_of};
+ghost use Rattle.lookups.specs.inner.ByName.{AreFirst, PutsEntry, entry_named};
+ghost use Rattle.lookups.specs.inner.NumbersViews.{problem_of};
 
 use crate::new_names::put_new;
 use crate::numbers::Numbers;

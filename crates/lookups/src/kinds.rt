@@ -15,11 +15,11 @@
 //! Whether what the cause names is there is left to `axioms`.
 
 ghost use Rattle.std.specs.Prelude.{◌≡◌, option_map, IfOk};
-ghost use Rattle.refutations.specs.Instances.{asking_in, cause_in, entry_in, feature_in, target_in, weak_in};
+ghost use Rattle.refutations.specs.inner.Instances.{asking_in, cause_in, entry_in, feature_in, target_in, weak_in};
 ghost use Rattle.vertices.specs.Kinds.{kind_view};
-ghost use Rattle.lookups.specs.CauseViews.{cause_view};
-ghost use Rattle.lookups.specs.TermViews.{term_views};
-ghost use Rattle.lookups.specs.NumbersViews.{problem_of};
+ghost use Rattle.lookups.specs.inner.CauseViews.{cause_view};
+ghost use Rattle.lookups.specs.inner.TermViews.{term_views};
+ghost use Rattle.lookups.specs.inner.NumbersViews.{problem_of};
 
 use crate::cause::Cause;
 use crate::feature_on_dependency::enabling_in;

@@ -7,9 +7,9 @@ ghost use Rattle.semver.specs.Identifiers.{parts_of};
 ghost use Rattle.features.specs.Views.{dependency_view, requirement_view};
 ghost use Rattle.classes.specs.Classes.{class_view};
 ghost use Rattle.refutations.specs.Causes.{has_class, is_unmatched};
-ghost use Rattle.lookups.specs.Matching.{is_lacking, is_left};
-ghost use Rattle.lookups.specs.Ranges.{AreRising};
-ghost use Rattle.lookups.specs.Views.{problem_view};
+ghost use Rattle.lookups.specs.inner.Matching.{is_lacking, is_left};
+ghost use Rattle.lookups.specs.inner.Ranges.{AreRising};
+ghost use Rattle.lookups.specs.inner.Views.{problem_view};
 
 use crate::narrowing::within;
 use crate::owners::brings;
@@ -45,7 +45,7 @@ fn some_within(requirement: &VersionReq, versions: &[Version]) -> bool
 }
 
 /// Whether the requirement doesn't match the version.
-#[tactic(auto, unfolding(crate::specs::Matching::is_left))]
+#[tactic(auto, unfolding(crate::specs::inner::Matching::is_left))]
 pub fn is_left(requirement: &VersionReq, version: &Version) -> bool
     ensures { result ≡ is_left (requirement_view requirement.now) (parts_of version.now) }
 {
@@ -53,7 +53,7 @@ pub fn is_left(requirement: &VersionReq, version: &Version) -> bool
 }
 
 /// Whether a version of the name lacks the feature; one that is no candidate does.
-#[tactic(auto, unfolding(crate::specs::Matching::is_lacking))]
+#[tactic(auto, unfolding(crate::specs::inner::Matching::is_lacking))]
 pub fn is_lacking(
     problem: &Problem<'_>,
     name: &PackageName,

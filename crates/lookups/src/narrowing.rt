@@ -7,9 +7,9 @@ ghost use Rattle.std.specs.Prelude.{◌≡◌, ◌≤◌, ◌<◌, ◌++◌, ℕ
 ghost use Rattle.semver.specs.EvalViews.{matches_views};
 ghost use Rattle.semver.specs.Identifiers.{comparator_view, parts_of};
 ghost use Rattle.features.specs.Views.{requirement_view};
-ghost use Rattle.catalogue.specs.Bounds.{is_beyond, is_short};
-ghost use Rattle.lookups.specs.Matching.{is_left, is_release, is_whole};
-ghost use Rattle.lookups.specs.Ranges.{AreRising};
+ghost use Rattle.catalogue.specs.inner.Bounds.{is_beyond, is_short};
+ghost use Rattle.lookups.specs.inner.Matching.{is_left, is_release, is_whole};
+ghost use Rattle.lookups.specs.inner.Ranges.{AreRising};
 
 use catalogue::{is_beyond, is_short};
 use classes::is_matched;

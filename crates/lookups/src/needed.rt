@@ -3,13 +3,13 @@
 ghost use Rattle.std.specs.Prelude.{◌≡◌, option_map, IfOk};
 ghost use Rattle.std.specs.Option.{option_or};
 ghost use Rattle.features.specs.Views.{dependency_view, dependency_views};
-ghost use Rattle.refutations.specs.Instances.{need_in, needed_unmatched, number_read};
-ghost use Rattle.vertices.specs.RefViews.{owner_ref_view};
-ghost use Rattle.lookups.specs.Views.{problem_view};
-ghost use Rattle.lookups.specs.CauseViews.{cause_view};
-ghost use Rattle.lookups.specs.TermViews.{term_views};
-ghost use Rattle.lookups.specs.NumbersViews.{problem_of};
-ghost use Rattle.lookups.specs.Needs.{is_needed_unmatched, place_from};
+ghost use Rattle.refutations.specs.inner.Instances.{need_in, needed_unmatched, number_read};
+ghost use Rattle.vertices.specs.inner.RefViews.{owner_ref_view};
+ghost use Rattle.lookups.specs.inner.Views.{problem_view};
+ghost use Rattle.lookups.specs.inner.CauseViews.{cause_view};
+ghost use Rattle.lookups.specs.inner.TermViews.{term_views};
+ghost use Rattle.lookups.specs.inner.NumbersViews.{problem_of};
+ghost use Rattle.lookups.specs.inner.Needs.{is_needed_unmatched, place_from};
 
 use crate::cause::Cause;
 use crate::matching::is_unmatched;
@@ -90,7 +90,7 @@ fn first_needed(
     None
 }
 
-#[tactic(auto, unfolding(crate::specs::Needs::is_needed_unmatched))]
+#[tactic(auto, unfolding(crate::specs::inner::Needs::is_needed_unmatched))]
 fn is_needed_unmatched(problem: &Problem<'_>, owner: &OwnerRef<'_>, dependency: &Dependency) -> bool
     ensures { result
         ≡ is_needed_unmatched (problem_view problem.now) (owner_ref_view owner.now) (dependency_view dependency.now) }

@@ -1,7 +1,7 @@
 //! Values by names, of which the first stays.
 
 ghost use Rattle.std.specs.Prelude.{OnOk};
-ghost use Rattle.lookups.specs.ByName.{PutsNew};
+ghost use Rattle.lookups.specs.inner.ByName.{PutsNew};
 
 use std::alloc::AllocError;
 use std::collections::HashMap;

@@ -2,10 +2,10 @@
 
 ghost use Rattle.std.specs.Prelude.{◌≡◌, option_map};
 ghost use Rattle.classes.specs.Classes.{class_view};
-ghost use Rattle.refutations.specs.Instances.{newest_in, newest_of};
-ghost use Rattle.vertices.specs.RefViews.{owner_ref_view};
-ghost use Rattle.lookups.specs.CauseViews.{cause_view};
-ghost use Rattle.lookups.specs.TermViews.{term_views};
+ghost use Rattle.refutations.specs.inner.Instances.{newest_in, newest_of};
+ghost use Rattle.vertices.specs.inner.RefViews.{owner_ref_view};
+ghost use Rattle.lookups.specs.inner.CauseViews.{cause_view};
+ghost use Rattle.lookups.specs.inner.TermViews.{term_views};
 
 use crate::cause::Cause;
 use crate::named_by_terms::{first_led, first_other};

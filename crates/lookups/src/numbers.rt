@@ -1,8 +1,8 @@
 //! What was looked for before, kept for the steps to come.
 
 ghost use Rattle.std.specs.Prelude.{◌≡◌};
-ghost use Rattle.lookups.specs.Numbers.{AreEnabled, AreFirsts, AreNeeded, AreUnmatched};
-ghost use Rattle.lookups.specs.Views.{problem_view};
+ghost use Rattle.lookups.specs.inner.Numbers.{AreEnabled, AreFirsts, AreNeeded, AreUnmatched};
+ghost use Rattle.lookups.specs.inner.Views.{problem_view};
 
 use crate::problem::Problem;
 use features::{Entry, FeatureName};
@@ -31,7 +31,7 @@ pub struct Numbers<'a> {
 }
 
 impl<'a> Numbers<'a> {
-    ghost use Rattle.lookups.specs.NumbersViews.{problem_of};
+    ghost use Rattle.lookups.specs.inner.NumbersViews.{problem_of};
 
     /// None yet.
     pub fn new(alloc: Global, problem: Problem<'a>) -> Numbers<'a>

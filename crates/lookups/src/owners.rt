@@ -6,8 +6,8 @@ ghost use Rattle.features.specs.Views.{dependency_view, dependency_views, brings
 ghost use Rattle.features.specs.EntryViews.{entry_views};
 ghost use Rattle.model.specs.Vertices.{owner_brings};
 ghost use Rattle.refutations.specs.Causes.{dependency_at, entries_of, is_needed};
-ghost use Rattle.lookups.specs.Views.{problem_view};
-ghost use Rattle.vertices.specs.RefViews.{owner_ref_view};
+ghost use Rattle.lookups.specs.inner.Views.{problem_view};
+ghost use Rattle.vertices.specs.inner.RefViews.{owner_ref_view};
 
 use crate::problem::Problem;
 use features::{Dependency, DependencyParts, Entry, FeatureName, PackageName, Summary};

@@ -6,10 +6,10 @@ ghost use Rattle.std.specs.List.Sorted.{IsStrictlySortedBy};
 ghost use Rattle.model.specs.Derivation.{both};
 ghost use Rattle.model.specs.Vertices.{has_state};
 ghost use Rattle.vertices.specs.Orders.{state_cmp};
-ghost use Rattle.refutations.specs.Instances.{first_of};
-ghost use Rattle.refutations.specs.Terms.{is_within, same_states};
-ghost use Rattle.lookups.specs.Sets.{all_in_either, all_in_both, all_shared_in};
-ghost use Rattle.vertices.specs.RefViews.{state_ref_view, state_ref_views};
+ghost use Rattle.refutations.specs.inner.Instances.{first_of};
+ghost use Rattle.refutations.specs.inner.Terms.{is_within, same_states};
+ghost use Rattle.lookups.specs.inner.Sets.{all_in_either, all_in_both, all_shared_in};
+ghost use Rattle.vertices.specs.inner.RefViews.{state_ref_view, state_ref_views};
 
 use std::alloc::{AllocError, Global};
 use std::marker::Model;
@@ -26,7 +26,7 @@ impl<'a> Model for StateSet<'a> {
     ghost use Rattle.std.specs.List.Sorted.{IsStrictlySortedBy};
     ghost use Rattle.model.specs.Vertices.{State};
     ghost use Rattle.vertices.specs.Orders.{state_cmp};
-    ghost use Rattle.vertices.specs.RefViews.{state_ref_views};
+    ghost use Rattle.vertices.specs.inner.RefViews.{state_ref_views};
 
     ghost Value = { List State };
 

@@ -2,9 +2,9 @@
 
 ghost use Rattle.std.specs.Prelude.{◌≡◌, option_map};
 ghost use Rattle.std.specs.Option.{option_or};
-ghost use Rattle.refutations.specs.Instances.{ask_in, list_in};
-ghost use Rattle.lookups.specs.CauseViews.{cause_view};
-ghost use Rattle.lookups.specs.TermViews.{term_views};
+ghost use Rattle.refutations.specs.inner.Instances.{ask_in, list_in};
+ghost use Rattle.lookups.specs.inner.CauseViews.{cause_view};
+ghost use Rattle.lookups.specs.inner.TermViews.{term_views};
 
 use crate::cause::Cause;
 use crate::named_by_terms::{first_ask, first_led, first_off};

@@ -1,6 +1,8 @@
 -- What a manifest brings is of names that are names, and it has no more dependencies than there are numbers of 32 bits.
-use Rattle.std.proofs.Common.{◌≡◌, ℕ, suc, ◌+◌, ◌*◌, ◌≤◌, Bool, true, false, not, ◌||◌, cond, List, [], ◌∷◌, ◌++◌, length}
-use Rattle.std.proofs.Common.{map, nat_le, codes, Option, Some, None, option_map, Result, Ok, Err, IfOk, IfSome, All, refl}
+use Rattle.std.proofs.Common.{◌≡◌, ℕ, suc, ◌+◌, ◌*◌, ◌≤◌, Bool, true, false, not, ◌||◌, cond, List, [], ◌∷◌, ◌++◌}
+use Rattle.std.proofs.Common.{length}
+use Rattle.std.proofs.Common.{map, nat_le, codes, Option, Some, None, option_map, Result, Ok, Err, IfOk, IfSome, All}
+use Rattle.std.proofs.Common.{refl}
 use Rattle.std.proofs.Common.{arith, length-append, Ordering, Less, Equal, Greater, nat_cmp, subst}
 use Rattle.std.proofs.lemmas.Bool.{leb-true}
 use Rattle.std.proofs.lemmas.List.Elements.{All-append, All-map, All-weaker}
@@ -9,7 +11,8 @@ use Rattle.std.specs.Option.{ok_or}
 use Rattle.std.specs.Ordering.{match_ordering}
 use Rattle.std.specs.Str.{is_utf8}
 use Rattle.semver.specs.Parse.{Held}
-use Rattle.toml.specs.Data.{Data, string, integer, float, boolean, datetime, array, table, as_array, as_table, get_member}
+use Rattle.toml.specs.Data.{Data, string, integer, float, boolean, datetime, array, table, as_array, as_table}
+use Rattle.toml.specs.Data.{get_member}
 use Rattle.toml.specs.Data.{Items, no_items, item, Members, no_members, member}
 use Rattle.toml.specs.Parse.{parse_document}
 use Rattle.model.specs.Optional.{of_utf8}
@@ -22,7 +25,8 @@ use Rattle.tables.proofs.Shorter.{If}
 use Rattle.tables.proofs.Sizes.{size, members_size, document-few}
 use Rattle.features.specs.Entries.{entry_of}
 use Rattle.features.specs.Names.{is_package_name, is_feature_name}
-use Rattle.features.specs.Valid.{IsPackageName, IsFeatureName, IsValidEntry, IsValidRow, IsValidDependency, BringsValid}
+use Rattle.features.specs.inner.Valid.{IsPackageName, IsFeatureName, IsValidEntry, IsValidRow, IsValidDependency}
+use Rattle.features.specs.inner.Valid.{BringsValid}
 use Rattle.features.specs.declared.dependency.DependencyKind.{DependencyKind}
 use Rattle.features.specs.declared.dependency.DependencyKind.TheVariants.{Normal, Dev, Build}
 use Rattle.features.proofs.ValidLemmas.{entry-valid, built-valid}
@@ -35,7 +39,8 @@ use Rattle.manifest.specs.Dependencies.{default_features_in, may_be_optional, de
 use Rattle.manifest.specs.Dependencies.{dependencies_in, part_of, section_at, section_of, sections_of, targets_in}
 use Rattle.manifest.specs.Dependencies.{targets_of}
 use Rattle.manifest.specs.Packages.{package_of, workspace_of, is_written}
-use Rattle.manifest.specs.Shapes.{strong, root_entry, entries_in, feature_of, features_in, features_of, all_dependencies}
+use Rattle.manifest.specs.Shapes.{strong, root_entry, entries_in, feature_of, features_in, features_of}
+use Rattle.manifest.specs.Shapes.{all_dependencies}
 use Rattle.manifest.specs.Shapes.{ShapeView, shape_of}
 use Rattle.manifest.specs.Manifests.{ManifestView, sources_allowed, requirement_of, dependency_with, dependencies_of}
 use Rattle.manifest.specs.Manifests.{dep_name, table_or_fault, features_with, table_of_bytes, manifest_of, limit}

@@ -8,4 +8,4 @@ pub mod Packages
 pub mod Dependencies
 pub mod Shapes
 pub mod Manifests
-pub mod ShapeViews
+pub mod inner

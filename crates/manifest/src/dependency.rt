@@ -11,7 +11,7 @@ ghost use Rattle.manifest.specs.Dependencies.{bare, registry, unsupported_in, so
 ghost use Rattle.manifest.specs.Dependencies.{may_be_optional, feature_names, feature_list, default_features_in};
 ghost use Rattle.manifest.specs.Dependencies.{dependency_in};
 ghost use Rattle.manifest.specs.Dependencies.{described, dependency_of, dependencies_in};
-ghost use Rattle.manifest.specs.ShapeViews.{source_view, dependency_view, dependency_views};
+ghost use Rattle.manifest.specs.inner.ShapeViews.{source_view, dependency_view, dependency_views};
 
 use crate::check::check;
 use crate::fault::{ManifestFault, Part, Unsupported};

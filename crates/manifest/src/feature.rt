@@ -4,7 +4,7 @@ ghost use Rattle.std.specs.Prelude.{◌≡◌, IfOk};
 ghost use Rattle.toml.specs.View.{view, table_view, array_view};
 ghost use Rattle.model.specs.Outcome.{Gives};
 ghost use Rattle.features.specs.EntryViews.{entry_view, entry_views};
-ghost use Rattle.features.specs.Tables.{rows_of};
+ghost use Rattle.features.specs.inner.Tables.{rows_of};
 ghost use Rattle.manifest.specs.Faults.{wants_memory};
 ghost use Rattle.manifest.specs.Values.{wanted};
 ghost use Rattle.manifest.specs.Shapes.{strong, root_entry, entries_in, feature_of, features_in, features_of};

@@ -11,7 +11,7 @@ ghost use Rattle.model.specs.Outcome.{Gives};
 ghost use Rattle.manifest.specs.Faults.{wants_memory};
 ghost use Rattle.manifest.specs.Packages.{is_inherited, name_of, version_of_text, version_of, rust_version_in};
 ghost use Rattle.manifest.specs.Packages.{package_in, package_of};
-ghost use Rattle.manifest.specs.ShapeViews.{package_view};
+ghost use Rattle.manifest.specs.inner.ShapeViews.{package_view};
 
 use crate::fault::{ManifestFault, Part};
 use crate::package::Package;

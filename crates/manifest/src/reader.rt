@@ -7,12 +7,12 @@ ghost use Rattle.semver.specs.Parse.{memory_error, req_of};
 ghost use Rattle.toml.specs.View.{table_view};
 ghost use Rattle.model.specs.Outcome.{Gives, guard};
 ghost use Rattle.classes.specs.RustVersions.{rust_version_view};
-ghost use Rattle.features.specs.Valid.{BringsValid};
+ghost use Rattle.features.specs.inner.Valid.{BringsValid};
 ghost use Rattle.features.specs.Views.{dependency_view, dependency_views, summary_view};
 ghost use Rattle.manifest.specs.Faults.{wants_memory};
 ghost use Rattle.manifest.specs.Manifests.{uses, needs_workspace, sources_allowed, dependency_with, dependencies_of};
 ghost use Rattle.manifest.specs.Manifests.{manifest_of, manifest_of_bytes};
-ghost use Rattle.manifest.specs.ShapeViews as shaped;
+ghost use Rattle.manifest.specs.inner.ShapeViews as shaped;
 
 use crate::check::check;
 use crate::dependency::{DependencyShape, DependencySource};
@@ -45,7 +45,7 @@ impl Model for Manifest {
     ghost use Rattle.semver.specs.Grammar.{IsValid};
     ghost use Rattle.semver.specs.Identifiers.{parts_of};
     ghost use Rattle.classes.specs.RustVersions.{rust_version_view};
-    ghost use Rattle.features.specs.Valid.{BringsValid};
+    ghost use Rattle.features.specs.inner.Valid.{BringsValid};
     ghost use Rattle.features.specs.Views.{summary_view};
     ghost use Rattle.manifest.specs.Manifests.{ManifestView};
 

@@ -2,7 +2,7 @@
 
 ghost use Rattle.std.specs.Prelude.{◌≡◌, IfOk, map};
 ghost use Rattle.model.specs.Outcome.{Gives};
-ghost use Rattle.features.specs.Tables.{dep_name_view, dep_names_view, rows_of};
+ghost use Rattle.features.specs.inner.Tables.{dep_name_view, dep_names_view, rows_of};
 ghost use Rattle.features.specs.Views.{dependency_view, dependency_views};
 ghost use Rattle.manifest.specs.Faults.{wants_memory};
 ghost use Rattle.manifest.specs.Manifests.{dep_name, features_with};

@@ -6,7 +6,7 @@ ghost use Rattle.model.specs.Outcome.{Gives};
 ghost use Rattle.manifest.specs.Dependencies.{part_of, section_at, section_of, sections_of};
 ghost use Rattle.manifest.specs.Dependencies.{targets_in, targets_of};
 ghost use Rattle.manifest.specs.Faults.{wants_memory};
-ghost use Rattle.manifest.specs.ShapeViews.{dependency_views};
+ghost use Rattle.manifest.specs.inner.ShapeViews.{dependency_views};
 
 use crate::dependency::{DependencyShape, dependencies_in};
 use crate::fault::{ManifestFault, Part};

@@ -4,7 +4,7 @@ ghost use Rattle.toml.specs.View.{table_view};
 ghost use Rattle.model.specs.Outcome.{Gives};
 ghost use Rattle.manifest.specs.Faults.{wants_memory};
 ghost use Rattle.manifest.specs.Shapes.{all_dependencies, shape_of};
-ghost use Rattle.manifest.specs.ShapeViews.{dependency_views, shape_view};
+ghost use Rattle.manifest.specs.inner.ShapeViews.{dependency_views, shape_view};
 
 use crate::dependency::DependencyShape;
 use crate::fault::{ManifestFault, Part};

@@ -3,8 +3,8 @@
 ghost use Rattle.std.specs.Prelude.{◌≡◌};
 ghost use Rattle.toml.specs.Data.{as_table};
 ghost use Rattle.toml.specs.View.{table_view, view};
-ghost use Rattle.manifest_faults.specs.Reasons.{has_among, has_in, has_in_target, has_in_targets, is_called};
-ghost use Rattle.manifest_faults.specs.Reasons.{is_optional, on_some, passes};
+ghost use Rattle.manifest_faults.specs.inner.Reasons.{has_among, has_in, has_in_target, has_in_targets, is_called};
+ghost use Rattle.manifest_faults.specs.inner.Reasons.{is_optional, on_some, passes};
 
 use tables::member;
 use toml::{Table, Value};
@@ -32,7 +32,7 @@ fn has_in_target(optional: bool, name: &str, top: &Table) -> bool
     }
 }
 
-#[tactic(auto, unfolding(crate::specs::Reasons::has_in_targets))]
+#[tactic(auto, unfolding(crate::specs::inner::Reasons::has_in_targets))]
 fn has_in_targets(optional: bool, name: &str, targets: &Table) -> bool
     ensures { result ≡ has_in_targets optional name.now (table_view targets.now) }
 {

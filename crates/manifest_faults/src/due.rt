@@ -1,9 +1,9 @@
 //! What stands at a place, and what may be wrong with it.
 
 ghost use Rattle.std.specs.Prelude.{◌≡◌, option_copied};
-ghost use Rattle.manifest_faults.specs.Blame.{form_at_top, form_in_package, form_in_workspace, form_named};
-ghost use Rattle.manifest_faults.specs.Blame.{form_of, form_of_dependency, form_of_item, form_of_key};
-ghost use Rattle.manifest_faults.specs.Blame.{is_due, is_kind_due, is_of_dependencies, is_sort_due};
+ghost use Rattle.manifest_faults.specs.inner.Blame.{form_at_top, form_in_package, form_in_workspace, form_named};
+ghost use Rattle.manifest_faults.specs.inner.Blame.{form_of, form_of_dependency, form_of_item, form_of_key};
+ghost use Rattle.manifest_faults.specs.inner.Blame.{is_due, is_kind_due, is_of_dependencies, is_sort_due};
 
 use crate::place::Place;
 use crate::why::{Kind, Sort, Why};

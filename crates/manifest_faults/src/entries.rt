@@ -5,9 +5,9 @@ ghost use Rattle.toml.specs.Data.{as_str};
 ghost use Rattle.toml.specs.View.{table_view, view};
 ghost use Rattle.features.specs.Entries.{entry_of};
 ghost use Rattle.features.specs.EntryViews.{entry_view};
-ghost use Rattle.manifest_faults.specs.Reasons.{dependency_in, entry_at, entry_in, feature_in, is_dependency};
-ghost use Rattle.manifest_faults.specs.Reasons.{is_no_feature, is_taken, is_taken_by, is_uncalled, is_unknown};
-ghost use Rattle.manifest_faults.specs.Reasons.{is_written, named_in, names_none, names_required, on_some};
+ghost use Rattle.manifest_faults.specs.inner.Reasons.{dependency_in, entry_at, entry_in, feature_in, is_dependency};
+ghost use Rattle.manifest_faults.specs.inner.Reasons.{is_no_feature, is_taken, is_taken_by, is_uncalled, is_unknown};
+ghost use Rattle.manifest_faults.specs.inner.Reasons.{is_written, named_in, names_none, names_required, on_some};
 
 use crate::called::is_called;
 use features::{Entry, EntryFault};

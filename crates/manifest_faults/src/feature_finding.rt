@@ -3,7 +3,7 @@
 //! What is called how is put into maps first, so that each entry is looked at once; what is found is then held against
 //! the manifest itself.
 
-ghost use Rattle.manifest_faults.specs.Finding.{IsFound};
+ghost use Rattle.manifest_faults.specs.inner.Finding.{IsFound};
 
 use crate::called::is_optional;
 use crate::entries::{dependency_in, entry_in, feature_in, is_written, named_in};

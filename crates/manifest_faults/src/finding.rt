@@ -1,6 +1,6 @@
 //! The first part of a manifest that has the fault which is sought.
 
-ghost use Rattle.manifest_faults.specs.Finding.{IsFound};
+ghost use Rattle.manifest_faults.specs.inner.Finding.{IsFound};
 
 use crate::feature_finding::{entry_culprit, feature_culprit};
 use crate::place::{Place, items_at, table_at};

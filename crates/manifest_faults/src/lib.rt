@@ -2,7 +2,7 @@
 //!
 //! `manifest` says which fault a manifest has, and of few faults more than the part of it. Here the tables are gone
 //! through in the order in which they are read, and what seems to be at fault is held against the manifest's own
-//! definitions: only a part that has the fault is told (`is_blamed`, in `specs/Blame`). So how it is searched for
+//! definitions: only a part that has the fault is told (`is_blamed`, in `specs/inner/Blame`). So how it is searched for
 //! needs no proof. The line is treated alike (`line.rt`): it is told where TOML itself says that what stands there
 //! begins on it.
 //!

@@ -5,8 +5,8 @@
 //! that lacks it, and with the header, or the key and a 0, TOML that has it. Where that isn't so no line is told.
 
 ghost use Rattle.std.specs.Prelude.{◌≡◌, ◌≤◌, ◌++◌, IfOk, IfSome, true};
-ghost use Rattle.manifest_faults.specs.Lines.{Begins, Has, IsLineOf, front_of, up_to};
-ghost use Rattle.manifest_faults.specs.Places.{value_at};
+ghost use Rattle.manifest_faults.specs.inner.Lines.{Begins, Has, IsLineOf, front_of, up_to};
+ghost use Rattle.manifest_faults.specs.inner.Places.{value_at};
 
 use crate::place::{Place, named_value, value_at};
 use std::alloc::{AllocError, Global};

@@ -2,8 +2,9 @@
 
 ghost use Rattle.std.specs.Prelude.{◌≡◌};
 ghost use Rattle.manifest.specs.Manifests.{same_source};
-ghost use Rattle.manifest_faults.specs.Reasons.{is_at, is_at_either, is_called_by, is_entry_of, is_in, is_meant};
-ghost use Rattle.manifest_faults.specs.Reasons.{is_of_feature, is_of_requirement, is_of_rows, is_of_source, is_shape};
+ghost use Rattle.manifest_faults.specs.inner.Reasons.{is_at, is_at_either, is_called_by, is_entry_of, is_in, is_meant};
+ghost use Rattle.manifest_faults.specs.inner.Reasons.{is_of_feature, is_of_requirement, is_of_rows, is_of_source};
+ghost use Rattle.manifest_faults.specs.inner.Reasons.{is_shape};
 
 use crate::place::Place;
 use crate::why::{Sort, Why};

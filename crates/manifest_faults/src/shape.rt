@@ -6,7 +6,7 @@ ghost use Rattle.features.specs.Names.{is_feature_name, is_package_name};
 ghost use Rattle.toml.specs.Data.{as_table};
 ghost use Rattle.toml.specs.View.{table_view, view};
 ghost use Rattle.manifest.specs.Packages.{is_inherited};
-ghost use Rattle.manifest_faults.specs.Reasons.{is_foreign, is_no, is_not, lacks_source};
+ghost use Rattle.manifest_faults.specs.inner.Reasons.{is_foreign, is_no, is_not, lacks_source};
 ghost use Rattle.semver.specs.Parse.{memory_error, req_of, version_parts};
 
 use crate::entries::entry_of;

@@ -3,9 +3,9 @@
 ghost use Rattle.std.specs.Prelude.{◌≡◌, IfOk, option_copied, option_map};
 ghost use Rattle.toml.specs.Data.{as_table};
 ghost use Rattle.toml.specs.View.{table_view, view};
-ghost use Rattle.manifest_faults.specs.Finding.{IsFound};
-ghost use Rattle.manifest_faults.specs.Places.{named_value, value_at};
-ghost use Rattle.manifest_faults.specs.Blame.{is_blamed, is_needed, is_own, is_so, is_so_of_own};
+ghost use Rattle.manifest_faults.specs.inner.Finding.{IsFound};
+ghost use Rattle.manifest_faults.specs.inner.Places.{named_value, value_at};
+ghost use Rattle.manifest_faults.specs.inner.Blame.{is_blamed, is_needed, is_own, is_so, is_so_of_own};
 
 use crate::due::{form_of, is_due};
 use crate::meaning::is_meant;

@@ -3,7 +3,7 @@
 ghost use Rattle.std.specs.Prelude.{◌≡◌, if◌then◌else◌, false, IfOk, option_copied};
 ghost use Rattle.toml.specs.Data.{as_bool};
 ghost use Rattle.toml.specs.View.{table_view, view};
-ghost use Rattle.manifest_faults.specs.Reasons.{is_dev, is_no, is_on, is_wrong, on_some};
+ghost use Rattle.manifest_faults.specs.inner.Reasons.{is_dev, is_no, is_on, is_wrong, on_some};
 
 use crate::entries::{entry_at, is_no_feature, is_taken, names_none, names_required};
 use crate::place::{Place, twin_at};

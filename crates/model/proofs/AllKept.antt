@@ -11,7 +11,7 @@ use Rattle.model.specs.Content.{Problem}
 use Rattle.model.specs.Vertices.{Owner, same_owner, owner_brings}
 use Rattle.model.specs.Axioms.{IsOwner}
 use Rattle.model.specs.Stands.{IsReachedFact}
-use Rattle.model.specs.ContentOf.{Kept, IsTargetOf, AreKept}
+use Rattle.model.specs.inner.ContentOf.{Kept, IsTargetOf, AreKept}
 use Rattle.model.proofs.Same.{owner-same, owner-refl}
 use Rattle.model.proofs.Lists.{in_none, in_cons, in_first, in_rest, any_of, to_any, all_none, all_cons, pairs_none}
 use Rattle.model.proofs.Closed.{owners, owner_there, Leads, AllFacts, all_facts, is_among, owner_of_fact}

@@ -11,9 +11,9 @@ use Rattle.model.specs.WellFormed.{IsCatalogue}
 use Rattle.model.specs.Vertices.{Owner, version_of, Vertex, pkg, dep, State, absent, present, version, in_class}
 use Rattle.model.specs.Axioms.{IsOwner}
 use Rattle.model.specs.Walk.{first_match, pick, Picks, IsWalk}
-use Rattle.model.specs.ContentOf.{Kept, AreKept, content_of}
-use Rattle.model.specs.Search.{IsUnbroken, LeadsTo, AssignsReached}
-use Rattle.model.specs.Assignment.{Assigns}
+use Rattle.model.specs.inner.ContentOf.{Kept, AreKept, content_of}
+use Rattle.model.specs.inner.Search.{IsUnbroken, LeadsTo, AssignsReached}
+use Rattle.model.specs.inner.Assignment.{Assigns}
 use Rattle.model.proofs.Lists.{in_first, in_rest}
 use Rattle.model.proofs.Reached.{chosen_version}
 use Rattle.model.proofs.Cut.{stands_valid}

@@ -21,7 +21,7 @@ use Rattle.model.specs.WellFormed.{IsCatalogue}
 use Rattle.model.specs.Vertices.{Owner, the_root, version_of, Vertex, pkg, dep, State, version, in_class, owner_brings}
 use Rattle.model.specs.Axioms.{is_lower}
 use Rattle.model.specs.Stands.{name_of, IsLink, StandsFor}
-use Rattle.model.specs.Search.{IsUnbroken, LeadsTo, IsReachedFact, IsPresent}
+use Rattle.model.specs.inner.Search.{IsUnbroken, LeadsTo, IsReachedFact, IsPresent}
 use Rattle.model.proofs.Same.{both, text-refl, text-same}
 use Rattle.model.proofs.Inner.{version_inner, class_inner, name_in, version_in}
 use Rattle.model.proofs.Orders.{last_is, none_serves, class_above}

@@ -12,8 +12,8 @@ use Rattle.model.specs.WellFormed.{IsCatalogue}
 use Rattle.model.specs.Vertices.{Owner, the_root, version_of, Vertex, root, pkg, dep, feat, ask, State, version}
 use Rattle.model.specs.Vertices.{in_class, owner_brings}
 use Rattle.model.specs.Stands.{name_of, StandsFor}
-use Rattle.model.specs.Search.{IsUnbroken, LeadsTo, IsReachedFact, IsOn, IsReachedVertex, AssignsReached}
-use Rattle.model.specs.Assignment.{Locks, IsOwnerAt, Has, Assigns}
+use Rattle.model.specs.inner.Search.{IsUnbroken, LeadsTo, IsReachedFact, IsOn, IsReachedVertex, AssignsReached}
+use Rattle.model.specs.inner.Assignment.{Locks, IsOwnerAt, Has, Assigns}
 use Rattle.model.proofs.Reached.{root_present, asking, chosen_version, reached_says, reached_met}
 use Rattle.model.proofs.Cut.{package_here, name_other, is_present, named_of, at_root, brings_there, brings_back}
 use Rattle.model.proofs.Cut.{root_back, Linked, to_target, means, Place, next, back}

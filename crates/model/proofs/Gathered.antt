@@ -16,7 +16,8 @@ use Rattle.model.specs.Order.{package_cmp}
 use Rattle.model.specs.WellFormed.{IsContent, IsCatalogue}
 use Rattle.model.specs.Vertices.{Owner, the_root, version_of, same_owner, owner_brings}
 use Rattle.model.specs.Stands.{name_of, IsReachedFact, IsLink, StandsFor}
-use Rattle.model.specs.ContentOf.{Kept, package_of, in_package_order, places_from, content_of, IsTargetOf, AreKept}
+use Rattle.model.specs.inner.ContentOf.{Kept, package_of, in_package_order, places_from, content_of, IsTargetOf}
+use Rattle.model.specs.inner.ContentOf.{AreKept}
 use Rattle.model.proofs.Lists.{in_none, in_cons, in_first, in_rest, to_any, any_of, all_get, all_none, all_cons}
 use Rattle.model.proofs.Lists.{all_first, all_rest, pairs_none, pairs_all, pairs_rest}
 use Rattle.model.proofs.Places.{place_of, got_in}

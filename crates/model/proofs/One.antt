@@ -4,7 +4,7 @@ use Rattle.std.proofs.lemmas.Option.{same_Some}
 use Rattle.model.specs.Content.{Problem, Content, Package, summary_at, target_of}
 use Rattle.model.specs.Selection.{class_of, IsValidSelection}
 use Rattle.model.specs.Vertices.{Vertex, root, pkg, dep, feat, ask, State, version, in_class}
-use Rattle.model.specs.Assignment.{Has, Assigns}
+use Rattle.model.specs.inner.Assignment.{Has, Assigns}
 use Rattle.model.proofs.Owners.{same_package, same_owner_place}
 
 module _ (q : Problem) (content : Content) (valid : IsValidSelection q content) where

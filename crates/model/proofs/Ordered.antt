@@ -19,7 +19,7 @@ use Rattle.model.specs.WellFormed.{IsCatalogue}
 use Rattle.model.specs.Vertices.{Owner, the_root, version_of}
 use Rattle.model.specs.Axioms.{IsOwner}
 use Rattle.model.specs.Sorting.{put_in}
-use Rattle.model.specs.ContentOf.{Kept, package_of, kept_cmp, in_package_order}
+use Rattle.model.specs.inner.ContentOf.{Kept, package_of, kept_cmp, in_package_order}
 use Rattle.model.proofs.Contents.{each_version_tied}
 use Rattle.model.proofs.Lists.{all_cons, all_first, all_rest, pairs_none, pairs_one, pairs_rest, pairs_all}
 use Rattle.model.proofs.PackageOrder.{package_total}

@@ -14,7 +14,7 @@ use Rattle.model.specs.Content.{if_checksum, same_option, same_version, is_root,
 use Rattle.model.specs.Content.{serves, serves_if, list_if}
 use Rattle.model.specs.Selection.{Class, class_of, IsValidSelection, IsFact, IsRootAt, IsOther, HasTarget}
 use Rattle.model.specs.Vertices.{Owner, the_root, version_of, State, in_class, owner_brings, dep}
-use Rattle.model.specs.Assignment.{Locks, IsOwnerAt, Leads, Has}
+use Rattle.model.specs.inner.Assignment.{Locks, IsOwnerAt, Leads, Has}
 use Rattle.model.proofs.Same.{both, text-same, text-refl, version-same, version-refl}
 use Rattle.model.proofs.Lists.{in_none, in_cons, in_first, in_rest}
 use Rattle.model.proofs.Orders.{IsLast, last_is}

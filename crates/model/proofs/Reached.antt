@@ -22,7 +22,7 @@ use Rattle.model.specs.Axioms.IsInstance.{root_is, needed, has_target, has_its_f
 use Rattle.model.specs.Axioms.IsInstance.{feature_on, dependency_on, feature_asks, newest_listed, weakly}
 use Rattle.model.specs.Axioms.HasFeatVertex.{had, asked as vertex_of_asked, by_entry}
 use Rattle.model.specs.WellFormed.{IsCatalogue}
-use Rattle.model.specs.Search.{IsUnbroken, LeadsTo, IsTheRoot, IsReachedFact, IsPresent, IsOn, SaysOfFact}
+use Rattle.model.specs.inner.Search.{IsUnbroken, LeadsTo, IsTheRoot, IsReachedFact, IsPresent, IsOn, SaysOfFact}
 use Rattle.model.proofs.Same.{class-same, text-same, text-refl, vertex-same, vertex-refl, class-refl}
 use Rattle.model.proofs.Inner.{version_inner}
 use Rattle.model.proofs.Lists.{in_first, in_rest, in_cons, in_none, in_filter, to_filter, in_map, to_map, to_any}

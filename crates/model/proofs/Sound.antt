@@ -19,7 +19,7 @@ use Rattle.model.specs.Axioms.{Term, at, Kind, is_lower, owner_holds, HasDep, Ha
 use Rattle.model.specs.Axioms.{matched, RootAsks, IsNeeded, IsInstance}
 use Rattle.model.specs.Axioms.IsInstance.{root_is, needed, has_target, has_its_feature, wants_by_list, wants_by_entry}
 use Rattle.model.specs.Axioms.IsInstance.{feature_on, dependency_on, feature_asks, newest_listed, weakly}
-use Rattle.model.specs.Assignment.{Locks, Leads, Has, IsOwnerAt, Meets, Breaks}
+use Rattle.model.specs.inner.Assignment.{Locks, Leads, Has, IsOwnerAt, Meets, Breaks}
 use Rattle.model.proofs.Same.{state-same}
 use Rattle.model.proofs.Inner.{version_inner, class_inner}
 use Rattle.model.proofs.Lists.{in_cons, in_filter, in_map}

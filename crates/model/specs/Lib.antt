@@ -14,7 +14,5 @@ pub mod Walk
 pub mod Vertices
 pub mod Axioms
 pub mod Derivation
-pub mod Assignment
-pub mod Search
-pub mod ContentOf
 pub mod Optional
+pub mod inner

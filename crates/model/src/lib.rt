@@ -40,9 +40,9 @@ ghost use Rattle.model.specs.Vertices.{version};
 ghost use Rattle.model.specs.Axioms.{AreApart, IsInstance, IsOwner, IsVertex, Kind, Term, is_lower, without_full};
 ghost use Rattle.model.specs.Stands.{StandsFor};
 ghost use Rattle.model.specs.Walk.{IsWalk, Picks};
-ghost use Rattle.model.specs.ContentOf.{AreKept, Kept, content_of, in_package_order, kept_cmp};
-ghost use Rattle.model.specs.Search.{AssignsReached, IsPresent, IsReachedFact, IsUnbroken, LeadsTo, SaysOfFact};
-ghost use Rattle.model.specs.Assignment.{Assigns, Breaks};
+ghost use Rattle.model.specs.inner.ContentOf.{AreKept, Kept, content_of, in_package_order, kept_cmp};
+ghost use Rattle.model.specs.inner.Search.{AssignsReached, IsPresent, IsReachedFact, IsUnbroken, LeadsTo, SaysOfFact};
+ghost use Rattle.model.specs.inner.Assignment.{Assigns, Breaks};
 ghost use Rattle.model.specs.Derivation.{IsAccepted, IsCombined, Step};
 
 /// In a feature table that is built, a feature has the entries that are written; else, where it is implicit, the one

@@ -20,7 +20,7 @@ use Rattle.refutations.specs.Causes.{of_enabling, of_asking, of_newest, of_weak,
 use Rattle.refutations.specs.Causes.{dependency_at}
 use Rattle.refutations.proofs.CauseLaws.{instance_cause}
 use Rattle.numbering.specs.Numberings.{Numbering, members_at, Says}
-use Rattle.numbering.specs.Absences.{has_absent, OneAbsent, HasZero, OneZero}
+use Rattle.numbering.specs.inner.Absences.{has_absent, OneAbsent, HasZero, OneZero}
 use Rattle.numbering.proofs.Places.{has_map}
 use Rattle.numbering.proofs.Saying.{one_place}
 

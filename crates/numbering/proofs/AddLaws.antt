@@ -15,9 +15,9 @@ use Rattle.model.proofs.Members.{all_each}
 use Rattle.refutations.specs.Causes.{Cause, is_cause, kind_of, terms_of_cause}
 use Rattle.vertices.specs.Kinds.{kind_view}
 use Rattle.vertices.specs.declared.kind.Kind.{Kind}
-use Rattle.numbering.specs.Assignments.{state_at}
+use Rattle.numbering.specs.inner.Assignments.{state_at}
 use Rattle.numbering.specs.GivenViews.{cause_views, given_views}
-use Rattle.lookups.specs.CauseViews.{cause_view}
+use Rattle.lookups.specs.inner.CauseViews.{cause_view}
 use Rattle.numbering.specs.Numberings.{Numbering, IsGrown, IsNumbering, Says}
 use Rattle.numbering.specs.Pairs.{Pair, AreCausesAt, AreGiven}
 use Rattle.lookups.specs.declared.cause.Cause as code

@@ -11,10 +11,10 @@ use Rattle.model.proofs.Lists.{to_map}
 use Rattle.model.proofs.Places.{got_in}
 use Rattle.refutations.specs.Causes.{Cause, terms_of_cause}
 use Rattle.numbering.specs.GivenViews.{cause_views}
-use Rattle.lookups.specs.CauseViews.{cause_view}
+use Rattle.lookups.specs.inner.CauseViews.{cause_view}
 use Rattle.numbering.specs.Numberings.{AddsOnly, Numbering, with_vertex}
 use Rattle.numbering.specs.Pairs.{AreCausesAt, IsCauseAt, IsSpokenOf, Pair, spoken_by}
-use Rattle.numbering.specs.TestedTerms.{TestedTerm, tested_view, tested_views, all_tested, vertices_of}
+use Rattle.numbering.specs.inner.TestedTerms.{TestedTerm, tested_view, tested_views, all_tested, vertices_of}
 use Rattle.lookups.specs.declared.cause.Cause as cause
 use Rattle.numbering.specs.declared.tested_terms.TestedTerm as tested_term
 

@@ -29,9 +29,9 @@ use Rattle.model.proofs.Lists.{pairs_first, pairs_none, pairs_rest, to_any}
 use Rattle.model.proofs.Members.{all_in}
 use Rattle.model.proofs.Orders.{not_lower_itself}
 use Rattle.model.proofs.Same.{class-refl, class-same, version-same}
-use Rattle.lookups.specs.Ranges.{AreRising}
+use Rattle.lookups.specs.inner.Ranges.{AreRising}
 use Rattle.version_sets.specs.Sets.{has, none, only}
-use Rattle.numbering.specs.TestedTerms.{is_chosen, is_class}
+use Rattle.numbering.specs.inner.TestedTerms.{is_chosen, is_class}
 use Rattle.numbering.proofs.ClassOrder.{Comes, classes_folded, folded, folded_in, neither, pairs_comes}
 use Rattle.numbering.proofs.ClassOrder.{pairs_filter}
 use Rattle.numbering.proofs.Distinct.{of_rows}

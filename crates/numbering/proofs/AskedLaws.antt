@@ -8,9 +8,9 @@ use Rattle.std.proofs.lemmas.List.{append-nil, append_assoc}
 use Rattle.model.specs.Content.{Problem}
 use Rattle.model.specs.Summary.{Dependency, same_text}
 use Rattle.model.specs.Vertices.{the_root}
-use Rattle.numbering.specs.Asked.{Asks, asked_in, asked_so, feature_of}
-use Rattle.numbering.specs.CausesAt.{root_asked}
-use Rattle.numbering.specs.Lists.{Puts}
+use Rattle.numbering.specs.inner.Asked.{Asks, asked_in, asked_so, feature_of}
+use Rattle.numbering.specs.inner.CausesAt.{root_asked}
+use Rattle.numbering.specs.inner.Lists.{Puts}
 use Rattle.numbering.specs.declared.asked.Wanted.{Wanted}
 use Rattle.numbering.proofs.ListLaws.{put_views}
 use Rattle.model.proofs.Flips.{text-flips}

@@ -18,10 +18,11 @@ use Rattle.model.specs.Vertices.{Owner, dep_classes, owner_brings, same_class}
 use Rattle.model.proofs.Same.{both}
 use Rattle.model.proofs.Mapped.{flat_flat}
 use Rattle.refutations.specs.Causes.{Cause, of_newest}
-use Rattle.numbering.specs.ByClass.{PutsLeading, leading_to, newest_among, newest_with, number_if, numbers_in, same_key}
-use Rattle.numbering.specs.Called.{numbered_from}
-use Rattle.numbering.specs.CausesAt.{newest_above, newest_at, newest_if}
-use Rattle.numbering.specs.OnPackage.{on_package, others_on}
+use Rattle.numbering.specs.inner.ByClass.{PutsLeading, leading_to, newest_among, newest_with, number_if, numbers_in}
+use Rattle.numbering.specs.inner.ByClass.{same_key}
+use Rattle.numbering.specs.inner.Called.{numbered_from}
+use Rattle.numbering.specs.inner.CausesAt.{newest_above, newest_at, newest_if}
+use Rattle.numbering.specs.inner.OnPackage.{on_package, others_on}
 use Rattle.numbering.proofs.ListLaws.{pushed}
 use Rattle.numbering.proofs.OnPackageLaws.{each_on, each_other}
 use Rattle.numbering.proofs.Same.{class_same}

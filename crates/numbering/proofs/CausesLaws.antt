@@ -21,14 +21,15 @@ use Rattle.refutations.specs.Causes.{Cause, of_root, of_need, of_target, of_feat
 use Rattle.refutations.specs.Causes.{of_enabling, of_asking, of_newest, of_weak, same_entry, enables, is_needed}
 use Rattle.refutations.specs.Causes.{dependency_at, has_class, has_entry, some_entry, lists_feature, root_asks_for}
 use Rattle.refutations.specs.Causes.{same_pair, is_overtaken, is_weak_on, entries_of, table_of_owner, is_cause}
-use Rattle.refutations.specs.Listed.{classes_at, classes_if}
+use Rattle.refutations.specs.inner.Listed.{classes_at, classes_if}
 use Rattle.std.proofs.lemmas.List.Elements.{Contains-append_cases, Contains-append_right, Contains-append_left}
 use Rattle.refutations.proofs.Named.{entry-refl, passes-is, to_passes, has_entry-is, to_entry, row_of, class-is}
 use Rattle.refutations.proofs.Named.{to_class, to_lists, to_feature, to_some_entry}
 use Rattle.numbering.specs.Pairs.{Pair, owner_pair, first_pair, AreCausesAt, IsCauseAt}
-use Rattle.numbering.specs.CausesAt.{each_from, need_if, turned_if, weak_if, needs_of, entry_if, entry_causes}
-use Rattle.numbering.specs.CausesAt.{feature_causes, version_causes, root_asked, newest_above, newest_at, newest_if}
-use Rattle.numbering.specs.CausesAt.{alone_causes, lead_causes, causes_at, first_causes, with_causes}
+use Rattle.numbering.specs.inner.CausesAt.{each_from, need_if, turned_if, weak_if, needs_of, entry_if, entry_causes}
+use Rattle.numbering.specs.inner.CausesAt.{feature_causes, version_causes, root_asked, newest_above, newest_at}
+use Rattle.numbering.specs.inner.CausesAt.{newest_if}
+use Rattle.numbering.specs.inner.CausesAt.{alone_causes, lead_causes, causes_at, first_causes, with_causes}
 use Rattle.numbering.proofs.Each.{from_if, in_all, only_one, to_all, to_if}
 use Rattle.numbering.proofs.SameCauses.{all_once, same_ones}
 

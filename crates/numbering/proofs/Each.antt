@@ -4,7 +4,7 @@ use Rattle.std.proofs.Common.{refl, sym, subst, inl, inr, arith}
 use Rattle.std.proofs.lemmas.List.Elements.{Contains-append_cases, Contains-append_left, Contains-append_right}
 use Rattle.std.proofs.lemmas.Option.{none-some, same_Some}
 use Rattle.model.proofs.Lists.{in_none, in_cons}
-use Rattle.numbering.specs.CausesAt.{each_from}
+use Rattle.numbering.specs.inner.CausesAt.{each_from}
 
 module _ {X Y : Type 0} (f : ℕ → X → List Y) where
   -- what is given for an element of a list, at its number

@@ -3,8 +3,8 @@ use Rattle.std.proofs.Common.{◌≡◌, ◌≢◌, ℕ, zero, suc, ◌<◌, [],
 use Rattle.std.proofs.Common.{refl, sym, ap, ◌∙◌, subst, arith}
 use Rattle.version_sets.specs.Sets.{Members, has, inside, meets, size}
 use Rattle.incompatibilities.specs.Incompatibilities.{Assignment, Terms, HoldsOf, Breaks}
-use Rattle.numbering.specs.Absences.{HasZero, OneZero}
-use Rattle.numbering.specs.Finals.{IsFinal, IsAtRest}
+use Rattle.numbering.specs.inner.Absences.{HasZero, OneZero}
+use Rattle.numbering.specs.inner.Finals.{IsFinal, IsAtRest}
 use Rattle.incompatibilities.specs.Incompatibilities.{HoldsAt}
 
 size_some : (s : Members) (i : ℕ) → has s i ≡ true → 0 < size s

@@ -21,7 +21,7 @@ use Rattle.classes.specs.Classes.{class_view}
 use Rattle.classes.specs.Groups.{Group, IsOldestFirst, classes_matched, each_once, group_views, groups_of}
 use Rattle.classes.specs.Groups.{positions_matched}
 use Rattle.classes.specs.declared.class.Class.{Class}
-use Rattle.lookups.specs.Ranges.{AreRising}
+use Rattle.lookups.specs.inner.Ranges.{AreRising}
 use Rattle.numbering.proofs.ClassOrder.{matched_classes}
 use Rattle.lookups.proofs.Classed.{versions_are}
 use Rattle.numbering.proofs.Distinct.{of_rows}

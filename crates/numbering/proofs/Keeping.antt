@@ -12,12 +12,13 @@ use Rattle.model.specs.Content.{Problem}
 use Rattle.model.specs.Summary.{Dependency, same_text}
 use Rattle.model.specs.Vertices.{owner_brings}
 use Rattle.model.proofs.Same.{both, owner-same, text-same}
-use Rattle.vertices.specs.RefViews.{owner_ref_view}
+use Rattle.vertices.specs.inner.RefViews.{owner_ref_view}
 use Rattle.vertices.specs.declared.vertex.OwnerRef.{OwnerRef}
-use Rattle.numbering.specs.Called.{numbered_from}
-use Rattle.numbering.specs.Indexed.{AreBrought, AreByClass, AreThere, IsBrought, OwnerKey, same_owner_key, same_ref}
-use Rattle.numbering.specs.Matched.{AreMatched, Ask, classes_asked, same_ask}
-use Rattle.numbering.specs.OnPackage.{on_package}
+use Rattle.numbering.specs.inner.Called.{numbered_from}
+use Rattle.numbering.specs.inner.Indexed.{AreBrought, AreByClass, AreThere, IsBrought, OwnerKey, same_owner_key}
+use Rattle.numbering.specs.inner.Indexed.{same_ref}
+use Rattle.numbering.specs.inner.Matched.{AreMatched, Ask, classes_asked, same_ask}
+use Rattle.numbering.specs.inner.OnPackage.{on_package}
 use Rattle.numbering.proofs.Requirements.{requirement-same}
 
 -- ---- of any values that are right for their keys

@@ -8,7 +8,7 @@ use Rattle.std.specs.declared.alloc.Global.{Global}
 use Rattle.std.proofs.lemmas.List.{append-nil, map-append}
 use Rattle.model.specs.Summary.{same_text}
 use Rattle.model.proofs.Same.{text-same}
-use Rattle.numbering.specs.Lists.{Puts, if_some, listed_in, same_name}
+use Rattle.numbering.specs.inner.Lists.{Puts, if_some, listed_in, same_name}
 
 some_or : {T : Type 0} (o : Option (Vec T Global)) (none : Vec T Global) → none.items ≡ []
     → if_some o ≡ (unwrap_or o none).items

@@ -12,10 +12,10 @@ use Rattle.model.specs.Vertices.{Owner, dep_classes}
 use Rattle.model.proofs.Same.{both}
 use Rattle.model.proofs.Flips.{text-flips}
 use Rattle.refutations.specs.Causes.{Cause}
-use Rattle.numbering.specs.Called.{numbered_from, numbered_view, numbered_views, those_views}
-use Rattle.numbering.specs.CausesAt.{each_from, newest_at, newest_if}
-use Rattle.numbering.specs.Lists.{Puts}
-use Rattle.numbering.specs.OnPackage.{PutsOn, is_other, on_in, on_package, others_on}
+use Rattle.numbering.specs.inner.Called.{numbered_from, numbered_view, numbered_views, those_views}
+use Rattle.numbering.specs.inner.CausesAt.{each_from, newest_at, newest_if}
+use Rattle.numbering.specs.inner.Lists.{Puts}
+use Rattle.numbering.specs.inner.OnPackage.{PutsOn, is_other, on_in, on_package, others_on}
 use Rattle.numbering.specs.declared.called.Numbered.{Numbered}
 use Rattle.numbering.proofs.CalledLaws.{each_in}
 use Rattle.numbering.proofs.ListLaws.{put_views}

@@ -19,8 +19,8 @@ use Rattle.catalogue.specs.Ranks.{records}
 use Rattle.catalogue.specs.Stores.{CatalogueView, IsStore, Row}
 use Rattle.catalogue.specs.Views.{most_candidates}
 use Rattle.numbering.specs.Numberings.{Numbering, IsGrown}
-use Rattle.numbering.specs.Numbered.{AreNumbered}
-use Rattle.numbering.specs.TestedTerms.{TestedTerm, IsOfTested, AreOfTested, IsFitting, all_tested}
+use Rattle.numbering.specs.inner.Numbered.{AreNumbered}
+use Rattle.numbering.specs.inner.TestedTerms.{TestedTerm, IsOfTested, AreOfTested, IsFitting, all_tested}
 use Rattle.numbering.proofs.Needing.{still_at, numbering_put, put_grows}
 use Rattle.std.proofs.lemmas.List.{map-append, length-map}
 use Rattle.std.proofs.Math.Seq.{take-suc}
@@ -29,7 +29,7 @@ use Rattle.terms.specs.declared.term.Term as Numbered
 use Rattle.model.specs.WellFormed.{IsCatalogue}
 use Rattle.refutations.specs.Causes.{Cause, is_cause, kind_of, terms_of_cause}
 use Rattle.numbering.specs.Numberings.{IsNumbering, with_vertex}
-use Rattle.numbering.specs.TestedTerms.{tested_view, tested_views}
+use Rattle.numbering.specs.inner.TestedTerms.{tested_view, tested_views}
 use Rattle.numbering.specs.declared.tested_terms.TestedTerm as code
 
 -- tested terms of terms are those, numbered

@@ -21,7 +21,7 @@ use Rattle.vertices.specs.contracts.same.OwnerRefPartialEq.TheImpl as owner_eq
 use Rattle.vertices.specs.contracts.same.VertexRefPartialEq.TheImpl as vertex_eq
 use Rattle.model.specs.Vertices.{same_class, same_owner, same_vertex}
 use Rattle.classes.specs.Classes.{class_view}
-use Rattle.vertices.specs.RefViews.{owner_ref_view, vertex_ref_view}
+use Rattle.vertices.specs.inner.RefViews.{owner_ref_view, vertex_ref_view}
 
 five : (a b c d e : Bool) → (a && (b && (c && (d && e)))) ≡ ((((a && b) && c) && d) && e)
 five true true true d e = refl

@@ -15,7 +15,7 @@ use Rattle.model.specs.Derivation as model
 use Rattle.model.proofs.Same.{vertex-same, vertex-refl, vertex-other}
 use Rattle.model.proofs.Places.{got_in}
 use Rattle.numbering.specs.Numberings.{Numbering, members_at, Says}
-use Rattle.numbering.specs.Numbered.{IsNumbered, AreNumbered}
+use Rattle.numbering.specs.inner.Numbered.{IsNumbered, AreNumbered}
 use Rattle.numbering.proofs.Places.{number_of}
 
 -- in a list where each vertex stands once, it stands at one place

@@ -12,7 +12,7 @@ use Rattle.model.specs.Content.{Problem}
 use Rattle.model.specs.Vertices.{Vertex, State, absent, same_vertex, has_state, space}
 use Rattle.model.specs.Axioms.{Term, Kind, IsBroken, IsInstance}
 use Rattle.model.specs.Derivation as model
-use Rattle.model.specs.Search.{IsUnbroken}
+use Rattle.model.specs.inner.Search.{IsUnbroken}
 use Rattle.model.proofs.Same.{vertex-same}
 use Rattle.model.proofs.Spaces.{state_in, absent_in_space}
 use Rattle.model.proofs.Places.{some_at, got_in}
@@ -20,7 +20,7 @@ use Rattle.refutations.specs.Causes.{terms_of_cause}
 use Rattle.refutations.proofs.CauseLaws.{instance_cause}
 use Rattle.numbering.specs.Numberings.{Numbering, IsNumbering, number_in, members_at, Says}
 use Rattle.numbering.specs.Pairs.{first_pair}
-use Rattle.numbering.specs.Assignments.{state_if, state_of, IsSettled}
+use Rattle.numbering.specs.inner.Assignments.{state_if, state_of, IsSettled}
 use Rattle.numbering.proofs.Places.{has_map, number_at, number_of}
 use Rattle.numbering.proofs.Firsts.{first_holds}
 

@@ -14,8 +14,8 @@ use Rattle.model.specs.WellFormed.{IsCatalogue}
 use Rattle.model.specs.Vertices.{Vertex, State, absent, same_vertex, has_state, space}
 use Rattle.model.specs.Axioms.{Term, Kind, IsInstance}
 use Rattle.model.specs.Derivation as model
-use Rattle.model.specs.Assignment as content
-use Rattle.model.specs.Assignment.{Assigns}
+use Rattle.model.specs.inner.Assignment as content
+use Rattle.model.specs.inner.Assignment.{Assigns}
 use Rattle.model.proofs.Same.{vertex-same}
 use Rattle.model.proofs.Spaces.{state_from, has_a_state}
 use Rattle.model.proofs.Terms.{allows_breaks}
@@ -23,7 +23,7 @@ use Rattle.model.proofs.Accepted.{instance_apart}
 use Rattle.model.proofs.Sound.{sound}
 use Rattle.model.proofs.Places.{some_at, place_of}
 use Rattle.numbering.specs.Numberings.{Numbering, members_at, Says}
-use Rattle.numbering.specs.Assignments.{state_at, IsOf}
+use Rattle.numbering.specs.inner.Assignments.{state_at, IsOf}
 use Rattle.numbering.proofs.Places.{has_map, full_at}
 
 -- a vertex of which terms speak is one of theirs

@@ -19,9 +19,9 @@ use Rattle.catalogue.specs.Stores.{CatalogueView, candidates_at}
 use Rattle.classes.specs.Classes.{class_view}
 use Rattle.classes.specs.declared.class.Class as code
 use Rattle.refutations.specs.Causes.{dependency_at}
-use Rattle.refutations.specs.Listed.{classes_at, classes_if}
-use Rattle.numbering.specs.Assignments.{state_at}
-use Rattle.lookups.specs.Ranges.{is_of}
+use Rattle.refutations.specs.inner.Listed.{classes_at, classes_if}
+use Rattle.numbering.specs.inner.Assignments.{state_at}
+use Rattle.lookups.specs.inner.Ranges.{is_of}
 use Rattle.numbering.proofs.Tested.{map_map, states_here}
 
 state_after : (xs : List State) (n : ℕ) → (n ≡ 0 → ⊥) → slice_get (absent ∷ xs) n ≡ slice_get xs (n - 1)

@@ -22,11 +22,11 @@ use Rattle.catalogue.specs.Problems.{problem_in}
 use Rattle.catalogue.specs.Stores.{CatalogueView, candidates_at}
 use Rattle.catalogue.specs.Views.{Said, said, said_by}
 use Rattle.catalogue.specs.declared.candidate.Candidate as stored
-use Rattle.refutations.specs.Listed.{classes_at, classes_if}
+use Rattle.refutations.specs.inner.Listed.{classes_at, classes_if}
 use Rattle.numbering.specs.Numberings.{members_at}
-use Rattle.numbering.specs.TestedTerms.{is_chosen, is_class}
-use Rattle.lookups.specs.Matching.{is_left}
-use Rattle.lookups.specs.Ranges.{is_of, versions_with}
+use Rattle.numbering.specs.inner.TestedTerms.{is_chosen, is_class}
+use Rattle.lookups.specs.inner.Matching.{is_left}
+use Rattle.lookups.specs.inner.Ranges.{is_of, versions_with}
 use Rattle.numbering.proofs.ClassOrder.{IsOlder}
 use Rattle.lookups.proofs.Classed.{class_is_of, classed_are, named, with_classed, with_those}
 use Rattle.numbering.proofs.Distinct.{of_rows, older_differ}

@@ -7,7 +7,7 @@ use Rattle.vertices.specs.Kinds.{kind_view}
 use Rattle.vertices.specs.declared.kind.Kind.{Kind}
 use Rattle.refutations.specs.Causes as causes
 use Rattle.numbering.specs.Pairs.{Given}
-use Rattle.lookups.specs.CauseViews.{cause_view}
+use Rattle.lookups.specs.inner.CauseViews.{cause_view}
 use Rattle.lookups.specs.declared.cause.Cause.{Cause}
 
 abbrev pub cause_views : List Cause → List causes.Cause

@@ -10,7 +10,7 @@ use Rattle.model.specs.Vertices.{version, in_class}
 use Rattle.model.specs.Axioms.{Kind}
 use Rattle.refutations.specs.Causes.{Cause, of_root, of_need, of_target, of_feature, of_list, of_ask, of_entry}
 use Rattle.refutations.specs.Causes.{of_enabling, of_asking, of_newest, of_weak, kind_of, is_cause, terms_of_cause}
-use Rattle.numbering.specs.CausesAt.{first_causes}
+use Rattle.numbering.specs.inner.CausesAt.{first_causes}
 use Rattle.numbering.specs.Numberings.{Numbering, Says}
 
 abbrev pub Pair : Type 0

@@ -4,7 +4,7 @@ ghost use Rattle.std.specs.Prelude.{◌≡◌, ◌∷◌, [], IfOk, OnOk};
 ghost use Rattle.std.specs.List.{flat_map};
 ghost use Rattle.features.specs.EntryViews.{entry_view, entry_views};
 ghost use Rattle.manifest.specs.Manifests.{asked_by, root_asks};
-ghost use Rattle.numbering.specs.Asked.{Asks, IsAsked, asked_so, those_asked};
+ghost use Rattle.numbering.specs.inner.Asked.{Asks, IsAsked, asked_so, those_asked};
 
 use crate::lists::put;
 use features::{Entry, FeatureName, FeatureTable, PackageName};
@@ -28,7 +28,7 @@ pub(crate) struct Asked<'a> {
 impl<'a> Model for Asked<'a> {
     ghost use Rattle.std.specs.Prelude.{ℕ, List};
     ghost use Rattle.manifest.specs.Manifests.{root_asks};
-    ghost use Rattle.numbering.specs.Asked.{IsAsked};
+    ghost use Rattle.numbering.specs.inner.Asked.{IsAsked};
 
     ghost Value = { List (List ℕ × List ℕ) };
 

@@ -4,9 +4,9 @@ ghost use Rattle.std.specs.Prelude.{◌≡◌, ◌∷◌, [], IfOk, OnOk, map};
 ghost use Rattle.classes.specs.Classes.{class_view};
 ghost use Rattle.features.specs.Views.{dependency_view};
 ghost use Rattle.model.specs.Vertices.{dep_classes};
-ghost use Rattle.numbering.specs.ByClass.{IsByClass, PutsLeading, leading_to, numbers_of};
-ghost use Rattle.numbering.specs.Called.{numbered_views};
-ghost use Rattle.numbering.specs.MatchedViews.{problem_of};
+ghost use Rattle.numbering.specs.inner.ByClass.{IsByClass, PutsLeading, leading_to, numbers_of};
+ghost use Rattle.numbering.specs.inner.Called.{numbered_views};
+ghost use Rattle.numbering.specs.inner.MatchedViews.{problem_of};
 
 use crate::called::Numbered;
 use crate::matched::Matched;
@@ -26,11 +26,11 @@ pub(crate) struct ByClass<'a> {
 
 impl<'a> Model for ByClass<'a> {
     ghost use Rattle.std.specs.Prelude.{ℕ, List};
-    ghost use Rattle.lookups.specs.Views.{problem_view};
+    ghost use Rattle.lookups.specs.inner.Views.{problem_view};
     ghost use Rattle.model.specs.Content as model;
     ghost use Rattle.model.specs.Summary.{Dependency};
-    ghost use Rattle.numbering.specs.ByClass.{IsByClass};
-    ghost use Rattle.numbering.specs.Called.{numbered_views};
+    ghost use Rattle.numbering.specs.inner.ByClass.{IsByClass};
+    ghost use Rattle.numbering.specs.inner.Called.{numbered_views};
 
     ghost Value = { model.Problem × List (ℕ × Dependency) };
 

@@ -2,7 +2,7 @@
 
 ghost use Rattle.std.specs.Prelude.{◌≡◌, IfOk, OnOk};
 ghost use Rattle.features.specs.Views.{dependency_views};
-ghost use Rattle.numbering.specs.Called.{IsByName, PutsCalled, called_so, numbered_from, those_views};
+ghost use Rattle.numbering.specs.inner.Called.{IsByName, PutsCalled, called_so, numbered_from, those_views};
 
 use crate::lists::put;
 use features::{Dependency, DependencyParts};
@@ -30,7 +30,7 @@ impl<'a> Model for ByName<'a> {
     ghost use Rattle.std.specs.Prelude.{List};
     ghost use Rattle.features.specs.Views.{dependency_views};
     ghost use Rattle.model.specs.Summary.{Dependency};
-    ghost use Rattle.numbering.specs.Called.{IsByName, numbered_from};
+    ghost use Rattle.numbering.specs.inner.Called.{IsByName, numbered_from};
 
     ghost Value = { List Dependency };
 

@@ -3,11 +3,11 @@
 ghost use Rattle.std.specs.Prelude.{◌≡◌, IfSome};
 ghost use Rattle.std.specs.Option.{ForSome};
 ghost use Rattle.model.specs.Vertices.{owner_brings};
-ghost use Rattle.lookups.specs.Views.{problem_view};
-ghost use Rattle.vertices.specs.RefViews.{owner_ref_view};
-ghost use Rattle.numbering.specs.Called.{numbered_from, numbered_views};
-ghost use Rattle.numbering.specs.Indexed.{AreBrought};
-ghost use Rattle.numbering.specs.OnPackage.{on_package};
+ghost use Rattle.lookups.specs.inner.Views.{problem_view};
+ghost use Rattle.vertices.specs.inner.RefViews.{owner_ref_view};
+ghost use Rattle.numbering.specs.inner.Called.{numbered_from, numbered_views};
+ghost use Rattle.numbering.specs.inner.Indexed.{AreBrought};
+ghost use Rattle.numbering.specs.inner.OnPackage.{on_package};
 
 use crate::asked::Asked;
 use crate::called::Numbered;
@@ -55,7 +55,7 @@ fn are_on(name: &PackageName, dependencies: &[Dependency]) -> bool {
 }
 
 impl<'a> Indexed<'a> {
-    ghost use Rattle.numbering.specs.IndexedViews.{problem_indexed};
+    ghost use Rattle.numbering.specs.inner.IndexedViews.{problem_indexed};
     ghost use Rattle.catalogue.specs.Problems.{problem_in};
 
     /// Nothing is kept yet.

@@ -4,12 +4,12 @@ ghost use Rattle.std.specs.Prelude.{◌≡◌, ◌++◌, ◌∷◌, ◌≤◌, [
 ghost use Rattle.std.specs.List.{AllByRecursion};
 ghost use Rattle.terms.specs.Terms.{terms_view};
 ghost use Rattle.refutations.specs.Causes.{is_cause, terms_of_cause};
-ghost use Rattle.lookups.specs.CauseViews.{cause_view};
-ghost use Rattle.numbering.specs.KnownProblem.{problem};
+ghost use Rattle.lookups.specs.inner.CauseViews.{cause_view};
+ghost use Rattle.numbering.specs.inner.KnownProblem.{problem};
 ghost use Rattle.numbering.specs.Numberings.{AddsOnly, IsGrown, IsNumbering, Says};
 ghost use Rattle.numbering.specs.Pairs.{spoken_by};
-ghost use Rattle.numbering.specs.TestedTerms.{AreOfTested, IsFitting, TestedTerm as TestedView, tested_view};
-ghost use Rattle.numbering.specs.TestedTerms.{states_view, tested_views, vertices_of};
+ghost use Rattle.numbering.specs.inner.TestedTerms.{AreOfTested, IsFitting, TestedTerm as TestedView, tested_view};
+ghost use Rattle.numbering.specs.inner.TestedTerms.{states_view, tested_views, vertices_of};
 ghost use Rattle.version_sets.specs.Sets.{only};
 
 use crate::known_problem::KnownProblem;

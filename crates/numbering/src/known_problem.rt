@@ -2,8 +2,8 @@
 
 ghost use Rattle.std.specs.Prelude.{◌≡◌};
 ghost use Rattle.catalogue.specs.Problems.{problem_in};
-ghost use Rattle.lookups.specs.Views as looked_up;
-ghost use Rattle.numbering.specs.MatchedViews.{problem_of};
+ghost use Rattle.lookups.specs.inner.Views as looked_up;
+ghost use Rattle.numbering.specs.inner.MatchedViews.{problem_of};
 
 use crate::matched::Matched;
 use catalogue::Catalogue;
@@ -23,7 +23,7 @@ pub struct KnownProblem<'a> {
 }
 
 impl<'a> KnownProblem<'a> {
-    ghost use Rattle.numbering.specs.KnownProblem.{problem};
+    ghost use Rattle.numbering.specs.inner.KnownProblem.{problem};
 
     /// The manifest and the loaded index alone.
     pub(crate) fn held(&self) -> Problem<'a>

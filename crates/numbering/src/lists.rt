@@ -1,7 +1,7 @@
 //! Lists of values, found by texts.
 
 ghost use Rattle.std.specs.Prelude.{OnOk};
-ghost use Rattle.numbering.specs.Lists.{Puts};
+ghost use Rattle.numbering.specs.inner.Lists.{Puts};
 
 use std::alloc::{AllocError, Global};
 use std::collections::HashMap;

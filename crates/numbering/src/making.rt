@@ -6,7 +6,7 @@ ghost use Rattle.terms.specs.Terms.{terms_view};
 ghost use Rattle.model.specs.Content.{Problem};
 ghost use Rattle.model.specs.Axioms.{Term as ModelTerm};
 ghost use Rattle.numbering.specs.Numberings.{IsNumbering, Numbering, Says};
-ghost use Rattle.numbering.specs.Numbered.{AreNumbered};
+ghost use Rattle.numbering.specs.inner.Numbered.{AreNumbered};
 
 use incompatibilities::Incompatibility;
 use terms::Term;

@@ -3,14 +3,14 @@
 ghost use Rattle.std.specs.Prelude.{◌≡◌, IfOk, IfSome, map};
 ghost use Rattle.classes.specs.Classes.{class_view};
 ghost use Rattle.features.specs.Views.{dependency_view};
-ghost use Rattle.lookups.specs.Views.{problem_view};
+ghost use Rattle.lookups.specs.inner.Views.{problem_view};
 ghost use Rattle.model.specs.Vertices.{dep_classes, owner_brings};
-ghost use Rattle.vertices.specs.RefViews.{owner_ref_view};
-ghost use Rattle.numbering.specs.Called.{numbered_from, numbered_views};
-ghost use Rattle.numbering.specs.Indexed.{AreByClass};
-ghost use Rattle.numbering.specs.IndexedViews.{problem_indexed};
-ghost use Rattle.numbering.specs.Matched.{AreMatched};
-ghost use Rattle.numbering.specs.OnPackage.{on_package};
+ghost use Rattle.vertices.specs.inner.RefViews.{owner_ref_view};
+ghost use Rattle.numbering.specs.inner.Called.{numbered_from, numbered_views};
+ghost use Rattle.numbering.specs.inner.Indexed.{AreByClass};
+ghost use Rattle.numbering.specs.inner.IndexedViews.{problem_indexed};
+ghost use Rattle.numbering.specs.inner.Matched.{AreMatched};
+ghost use Rattle.numbering.specs.inner.OnPackage.{on_package};
 
 use crate::asked::Asked;
 use crate::by_class::ByClass;
@@ -43,7 +43,7 @@ pub struct Matched<'a> {
 }
 
 impl<'a> Matched<'a> {
-    ghost use Rattle.numbering.specs.MatchedViews.{problem_of};
+    ghost use Rattle.numbering.specs.inner.MatchedViews.{problem_of};
     ghost use Rattle.catalogue.specs.Problems.{problem_in};
 
     /// Nothing is kept yet.

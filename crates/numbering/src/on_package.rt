@@ -2,8 +2,8 @@
 
 ghost use Rattle.std.specs.Prelude.{◌≡◌, IfOk, OnOk};
 ghost use Rattle.features.specs.Views.{dependency_views};
-ghost use Rattle.numbering.specs.Called.{numbered_from, those_views};
-ghost use Rattle.numbering.specs.OnPackage.{IsByPackage, PutsOn, on_package};
+ghost use Rattle.numbering.specs.inner.Called.{numbered_from, those_views};
+ghost use Rattle.numbering.specs.inner.OnPackage.{IsByPackage, PutsOn, on_package};
 
 use crate::called::Numbered;
 use crate::lists::put;
@@ -24,8 +24,8 @@ impl<'a> Model for OnPackage<'a> {
     ghost use Rattle.std.specs.Prelude.{List};
     ghost use Rattle.features.specs.Views.{dependency_views};
     ghost use Rattle.model.specs.Summary.{Dependency};
-    ghost use Rattle.numbering.specs.Called.{numbered_from};
-    ghost use Rattle.numbering.specs.OnPackage.{IsByPackage};
+    ghost use Rattle.numbering.specs.inner.Called.{numbered_from};
+    ghost use Rattle.numbering.specs.inner.OnPackage.{IsByPackage};
 
     ghost Value = { List Dependency };
 

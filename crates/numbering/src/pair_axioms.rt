@@ -6,13 +6,13 @@ ghost use Rattle.model.specs.Axioms.{IsVertex};
 ghost use Rattle.model.specs.Vertices.{Vertex, space};
 ghost use Rattle.refutations.specs.Causes as causes;
 ghost use Rattle.refutations.specs.Causes.{is_cause};
-ghost use Rattle.numbering.specs.Assignments.{state_at};
+ghost use Rattle.numbering.specs.inner.Assignments.{state_at};
 ghost use Rattle.numbering.specs.GivenViews.{cause_views, given_views};
-ghost use Rattle.lookups.specs.CauseViews.{cause_view};
-ghost use Rattle.numbering.specs.KnownProblem.{KnowsDefault, problem};
+ghost use Rattle.lookups.specs.inner.CauseViews.{cause_view};
+ghost use Rattle.numbering.specs.inner.KnownProblem.{KnowsDefault, problem};
 ghost use Rattle.numbering.specs.Numberings.{AddsOnly, IsGrown, IsNumbering};
 ghost use Rattle.numbering.specs.Pairs.{AreGiven, IsCauseAt, IsFirstGiven, IsGivenAt, IsSpokenOf, spoken_by};
-ghost use Rattle.vertices.specs.RefViews.{state_ref_view, vertex_ref_view};
+ghost use Rattle.vertices.specs.inner.RefViews.{state_ref_view, vertex_ref_view};
 
 use crate::instances::instance;
 use crate::known_problem::KnownProblem;

@@ -6,13 +6,13 @@ ghost use Rattle.classes.specs.Classes.{class_view};
 ghost use Rattle.model.specs.Axioms.{IsVertex};
 ghost use Rattle.model.specs.Vertices as model;
 ghost use Rattle.refutations.specs.Causes.{of_ask};
-ghost use Rattle.refutations.specs.Listed.{classes_at};
+ghost use Rattle.refutations.specs.inner.Listed.{classes_at};
 ghost use Rattle.numbering.specs.GivenViews.{cause_views};
-ghost use Rattle.lookups.specs.CauseViews.{cause_view};
-ghost use Rattle.numbering.specs.CausesAt.{causes_at, first_causes};
-ghost use Rattle.numbering.specs.KnownProblem.{KnowsDefault, problem};
+ghost use Rattle.lookups.specs.inner.CauseViews.{cause_view};
+ghost use Rattle.numbering.specs.inner.CausesAt.{causes_at, first_causes};
+ghost use Rattle.numbering.specs.inner.KnownProblem.{KnowsDefault, problem};
 ghost use Rattle.numbering.specs.Pairs.{AreCausesAt};
-ghost use Rattle.vertices.specs.RefViews.{state_ref_view, vertex_ref_view};
+ghost use Rattle.vertices.specs.inner.RefViews.{state_ref_view, vertex_ref_view};
 
 use crate::causes::{each_once, put_needs, put_version};
 use crate::known_problem::KnownProblem;

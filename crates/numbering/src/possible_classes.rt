@@ -4,10 +4,10 @@ ghost use Rattle.std.specs.Prelude.{◌≡◌, ◌∷◌, true, false, map, IfOk
 ghost use Rattle.classes.specs.Classes.{class_view};
 ghost use Rattle.features.specs.Views.{dependency_view};
 ghost use Rattle.model.specs.Vertices.{dep_classes};
-ghost use Rattle.refutations.specs.Listed.{classes_at};
-ghost use Rattle.numbering.specs.KnownProblem.{problem};
-ghost use Rattle.numbering.specs.TestedTerms.{is_class, states_view};
-ghost use Rattle.vertices.specs.RefViews.{owner_ref_view};
+ghost use Rattle.refutations.specs.inner.Listed.{classes_at};
+ghost use Rattle.numbering.specs.inner.KnownProblem.{problem};
+ghost use Rattle.numbering.specs.inner.TestedTerms.{is_class, states_view};
+ghost use Rattle.vertices.specs.inner.RefViews.{owner_ref_view};
 
 use crate::known_problem::KnownProblem;
 use crate::owners::dependency_at;

@@ -11,9 +11,9 @@ ghost use Rattle.catalogue.specs.Views.{said_by};
 ghost use Rattle.model.specs.Axioms.{is_lower};
 ghost use Rattle.model.specs.Order.{precedence};
 ghost use Rattle.model.specs.Summary.{has_feature};
-ghost use Rattle.numbering.specs.TestedTerms.{is_chosen, is_class, states_view};
-ghost use Rattle.lookups.specs.Matching.{is_left};
-ghost use Rattle.lookups.specs.Ranges.{AreRising};
+ghost use Rattle.numbering.specs.inner.TestedTerms.{is_chosen, is_class, states_view};
+ghost use Rattle.lookups.specs.inner.Matching.{is_left};
+ghost use Rattle.lookups.specs.inner.Ranges.{AreRising};
 ghost use Rattle.semver.specs.EvalViews.{matches_views};
 ghost use Rattle.version_sets.specs.Sets.{has, none, only};
 
@@ -34,14 +34,14 @@ pub(crate) enum Tests {
     One { states: usize, state: usize },
 }
 
-#[tactic(auto, unfolding(crate::specs::TestedTerms::is_chosen))]
+#[tactic(auto, unfolding(crate::specs::inner::TestedTerms::is_chosen))]
 fn is_chosen(version: &Version, other: &Version) -> bool
     ensures { result ≡ is_chosen (parts_of version.now) (parts_of other.now) }
 {
     other == version
 }
 
-#[tactic(auto, unfolding(crate::specs::TestedTerms::is_class))]
+#[tactic(auto, unfolding(crate::specs::inner::TestedTerms::is_class))]
 fn is_class(class: Class, other: Class) -> bool
     ensures { result ≡ is_class (class_view class) (class_view other) }
 {

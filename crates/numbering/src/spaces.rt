@@ -3,8 +3,8 @@
 ghost use Rattle.std.specs.Prelude.{◌≡◌, ◌≤◌, IfOk, Some, length, slice_get};
 ghost use Rattle.classes.specs.Classes.{class_view};
 ghost use Rattle.model.specs.Vertices.{Vertex, dep, pkg, space};
-ghost use Rattle.numbering.specs.KnownProblem.{problem};
-ghost use Rattle.vertices.specs.RefViews.{owner_ref_view, vertex_ref_view};
+ghost use Rattle.numbering.specs.inner.KnownProblem.{problem};
+ghost use Rattle.vertices.specs.inner.RefViews.{owner_ref_view, vertex_ref_view};
 
 use crate::known_problem::KnownProblem;
 use crate::possible_classes::classes_at;

@@ -4,9 +4,9 @@ ghost use Rattle.std.specs.Prelude.{◌≡◌, ◌++◌, ◌∷◌, [], IfOk, ma
 ghost use Rattle.semver.specs.Identifiers.{parts_of};
 ghost use Rattle.classes.specs.Classes.{class_view};
 ghost use Rattle.model.specs.Vertices.{absent, dep, in_class, pkg, present, space, version};
-ghost use Rattle.numbering.specs.Assignments.{state_at};
-ghost use Rattle.numbering.specs.KnownProblem.{problem};
-ghost use Rattle.vertices.specs.RefViews.{owner_ref_view, state_ref_view, state_ref_views, vertex_ref_view};
+ghost use Rattle.numbering.specs.inner.Assignments.{state_at};
+ghost use Rattle.numbering.specs.inner.KnownProblem.{problem};
+ghost use Rattle.vertices.specs.inner.RefViews.{owner_ref_view, state_ref_view, state_ref_views, vertex_ref_view};
 
 use crate::known_problem::KnownProblem;
 use crate::possible_classes::classes_at;

@@ -2,7 +2,7 @@
 
 ghost use Rattle.std.specs.Prelude.{◌≡◌, [], Some, IfOk, OnOk, OnErr, option_map, slice_get, length};
 ghost use Rattle.numbering.specs.Numberings.{number_in, with_vertex};
-ghost use Rattle.vertices.specs.RefViews.{vertex_ref_view};
+ghost use Rattle.vertices.specs.inner.RefViews.{vertex_ref_view};
 
 use indexmap::IndexSet;
 use std::alloc::{AllocError, Global};
@@ -18,7 +18,7 @@ pub struct Table<'a> {
 impl<'a> Model for Table<'a> {
     ghost use Rattle.std.specs.Prelude.{◌≡◌, map};
     ghost use Rattle.numbering.specs.Numberings.{Numbering};
-    ghost use Rattle.vertices.specs.RefViews.{vertex_ref_view};
+    ghost use Rattle.vertices.specs.inner.RefViews.{vertex_ref_view};
 
     ghost Value = { Numbering };
 

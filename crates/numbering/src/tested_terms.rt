@@ -10,10 +10,10 @@ ghost use Rattle.model.specs.Summary.{has_feature};
 ghost use Rattle.model.specs.Vertices as model;
 ghost use Rattle.refutations.specs.Causes as causes;
 ghost use Rattle.refutations.specs.Causes.{dependency_at, feature_holds, terms_of_cause};
-ghost use Rattle.lookups.specs.CauseViews.{cause_view};
-ghost use Rattle.numbering.specs.KnownProblem.{problem};
-ghost use Rattle.numbering.specs.TestedTerms.{states_view, tested, tested_view, tested_views, all_tested};
-ghost use Rattle.vertices.specs.RefViews.{owner_ref_view, vertex_ref_view};
+ghost use Rattle.lookups.specs.inner.CauseViews.{cause_view};
+ghost use Rattle.numbering.specs.inner.KnownProblem.{problem};
+ghost use Rattle.numbering.specs.inner.TestedTerms.{states_view, tested, tested_view, tested_views, all_tested};
+ghost use Rattle.vertices.specs.inner.RefViews.{owner_ref_view, vertex_ref_view};
 
 use crate::known_problem::KnownProblem;
 use crate::owners::dependency_at;

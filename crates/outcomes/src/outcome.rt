@@ -1,7 +1,7 @@
 //! What a command ends with.
 
 ghost use Rattle.std.specs.Prelude.{◌≡◌, None, Some};
-ghost use Rattle.outcomes.specs.Outcomes.{ending_view};
+ghost use Rattle.outcomes.specs.inner.Outcomes.{ending_view};
 
 /// The status of a yes.
 const YES: u8 = 0;

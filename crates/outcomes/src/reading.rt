@@ -1,7 +1,7 @@
 //! What the files of a project hold, up to their limits.
 
 ghost use Rattle.std.specs.Prelude.{◌≡◌, ◌⊎◌, string_bytes, IfErr};
-ghost use Rattle.outcomes.specs.Faults.{IsAbout};
+ghost use Rattle.outcomes.specs.inner.Faults.{IsAbout};
 
 use crate::fault::ReadFault;
 use crate::paths::Paths;

@@ -1,7 +1,7 @@
 //! What `resolve` and `update` end with.
 
 ghost use Rattle.std.specs.Prelude.{◌≡◌, IfOk};
-ghost use Rattle.outcomes.specs.Outcomes.{ending_of, ending_view};
+ghost use Rattle.outcomes.specs.inner.Outcomes.{ending_of, ending_view};
 
 use crate::answers::{
     Form, NewLock, Repaired, Unlocked, changes_in, is_of_old_format, lock_in, lost_in, new_lock,

@@ -8,7 +8,7 @@ use Rattle.version_sets.proofs.Laws.{size-le}
 use Rattle.propagation.specs.Trails.{StepView, TrailView, no_step, set_of, sets_at, space_of, step_at}
 use Rattle.incompatibilities.specs.Incompatibilities.{HoldsAt}
 use Rattle.propagation.specs.Promises.{IsSound, LatestOf}
-use Rattle.propagation.specs.Counting.{IsCount}
+use Rattle.propagation.specs.inner.Counting.{IsCount}
 use Rattle.propagation.proofs.Back.{latest_now, sets_now}
 use Rattle.propagation.proofs.Places.{linked, shrinks, some_at, unchanged}
 use Rattle.propagation.proofs.SetLemmas.{full_inside, inside_through}

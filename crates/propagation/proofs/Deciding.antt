@@ -5,7 +5,7 @@ use Rattle.version_sets.specs.Sets.{Members, has, inside, only, size}
 use Rattle.version_sets.proofs.Laws.{length-only}
 use Rattle.incompatibilities.specs.Stores.{EntryView}
 use Rattle.propagation.specs.Trails.{StepView, TrailView, set_of, space_of, total}
-use Rattle.propagation.specs.Parts.{IsPut, put_step}
+use Rattle.propagation.specs.inner.Parts.{IsPut, put_step}
 use Rattle.propagation.specs.Promises.{IsDecided, IsSound, IsTaken, IsTrail, SameSpaces}
 use Rattle.propagation.proofs.Back.{put_longer}
 use Rattle.propagation.proofs.SetLemmas.{inside_only, size_only, total_set}

@@ -4,8 +4,8 @@ use Rattle.std.proofs.lemmas.Bool.{cases_eq, cases_lt, le-ltb, lt-ltb}
 use Rattle.terms.specs.Terms.{TermView}
 use Rattle.incompatibilities.specs.Incompatibilities.{IsRising}
 use Rattle.propagation.specs.Trails.{TrailView}
-use Rattle.propagation.specs.Units.{term_at}
-use Rattle.propagation.specs.Counting.{AreRanked, HoldsAfter, IsCount, Ranked, ranked}
+use Rattle.propagation.specs.inner.Units.{term_at}
+use Rattle.propagation.specs.inner.Counting.{AreRanked, HoldsAfter, IsCount, Ranked, ranked}
 use Rattle.propagation.specs.declared.satisfying.Ranks.{Ranks}
 use Rattle.propagation.proofs.Vertices.{one_place}
 

@@ -8,9 +8,9 @@ use Rattle.incompatibilities.specs.Incompatibilities.{Terms, states_at, HoldsAt}
 use Rattle.incompatibilities.specs.Stores.{EntryView, terms_of}
 use Rattle.propagation.specs.Trails.{TrailView, end_sets, level_after, set_of, sets_at, space_of, step_at}
 use Rattle.propagation.specs.Satisfaction.{OthersHold, Sat}
-use Rattle.propagation.specs.Units.{LiesOn, term_at}
+use Rattle.propagation.specs.inner.Units.{LiesOn, term_at}
 use Rattle.propagation.specs.Promises.{ForcedFits, IsForcedBy, IsSatisfied, IsSound, IsTrail, NextLevel, OpenFits}
-use Rattle.propagation.specs.Counting.{AreRanked}
+use Rattle.propagation.specs.inner.Counting.{AreRanked}
 use Rattle.propagation.specs.declared.satisfying.Ranks.{Ranks}
 use Rattle.propagation.specs.declared.satisfying.Satisfier.{Satisfier}
 use Rattle.propagation.proofs.Combining.{combined_before}

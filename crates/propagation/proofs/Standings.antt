@@ -3,7 +3,7 @@ use Rattle.std.proofs.Common.{◌≡◌, ◌≢◌, ℕ, suc, ◌<◌, ◌≤◌
 use Rattle.std.proofs.lemmas.Bool.{cases_lt, cases_eq}
 use Rattle.terms.specs.declared.term.Relation.{Relation}
 use Rattle.terms.specs.declared.term.Relation.TheVariants.{Satisfied, Contradicted, Open}
-use Rattle.propagation.specs.Units.{Neither, Stands, after}
+use Rattle.propagation.specs.inner.Units.{Neither, Stands, after}
 use Rattle.propagation.specs.declared.propagating.Standing.{Standing}
 use Rattle.propagation.specs.declared.propagating.Standing.TheVariants.{Holds, OneOpen, Quiet}
 

@@ -14,7 +14,7 @@ use Rattle.incompatibilities.proofs.Lookups.{at_first, at_later}
 use Rattle.propagation.specs.Trails.{TrailView, no_step, set_of, space_of, step_at, step_view, steps_view}
 use Rattle.propagation.specs.declared.trail.Step.{Step}
 use Rattle.propagation.specs.Satisfaction.{IsOneOpen, IsQuiet, Sat}
-use Rattle.propagation.specs.Units.{AllHold, LiesOn, Neither, OneIsOpen, relation_at, term_at}
+use Rattle.propagation.specs.inner.Units.{AllHold, LiesOn, Neither, OneIsOpen, relation_at, term_at}
 use Rattle.propagation.proofs.SetLemmas.{not_full_long}
 
 -- relations and satisfaction

@@ -2,11 +2,11 @@
 
 ghost use Rattle.incompatibilities.specs.Incompatibilities.{LiesIn, states_at, HoldsAt};
 ghost use Rattle.incompatibilities.specs.Stores.{EntryView};
-ghost use Rattle.propagation.specs.Counting.{IsCount, Ranked, ranked};
+ghost use Rattle.propagation.specs.inner.Counting.{IsCount, Ranked, ranked};
 ghost use Rattle.propagation.specs.Promises.{ForcedFits, IsSatisfied, IsSound, IsTrail, OpenFits};
 ghost use Rattle.propagation.specs.Satisfaction.{Sat};
 ghost use Rattle.propagation.specs.Trails.{level_after, set_of, space_of, trail_view};
-ghost use Rattle.propagation.specs.Units.{LiesOn};
+ghost use Rattle.propagation.specs.inner.Units.{LiesOn};
 ghost use Rattle.std.specs.Prelude.{◌≡◌, ◌<◌, ◌≤◌, List, Some, length};
 ghost use Rattle.terms.specs.Terms.{terms_view};
 

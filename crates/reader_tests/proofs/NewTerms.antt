@@ -5,7 +5,7 @@ use Rattle.std.proofs.lemmas.List.Elements.{All-from_recursion}
 use Rattle.model.specs.Vertices.{Vertex, State, same_state, same_vertex}
 use Rattle.model.specs.Axioms.{Term, at}
 use Rattle.vertices.specs.Texts.{IsReadState, IsReadVertex}
-use Rattle.derivations.specs.Building.{AreNewTerms, IsNewTerm}
+use Rattle.derivations.specs.inner.Building.{AreNewTerms, IsNewTerm}
 
 pub with-one : (v : Vertex) (s : State) → IsReadVertex v → IsReadState v s → IsNewTerm (at v (s ∷ []))
 unfolding IsDistinct

@@ -1,8 +1,8 @@
 //! A derivation that is built.
 
 ghost use Rattle.std.specs.Prelude.{◌∷◌, []};
-ghost use Rattle.derivations.specs.Building.{AreNewTerms};
-ghost use Rattle.derivations.specs.Named.{named_view};
+ghost use Rattle.derivations.specs.inner.Building.{AreNewTerms};
+ghost use Rattle.derivations.specs.inner.Named.{named_view};
 
 use derivations::{Derivation, NamedTerm, write};
 use std::alloc::{AllocError, Global};

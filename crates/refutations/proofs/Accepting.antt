@@ -7,8 +7,9 @@ use Rattle.std.proofs.lemmas.Option.{none-some}
 use Rattle.model.specs.Content.{Problem}
 use Rattle.model.specs.Axioms.{Term, AreApart}
 use Rattle.model.specs.Derivation.{Step, given, combine, terms_of, IsStep, AreSteps, none_yet, one_more, IsAccepted}
-use Rattle.refutations.specs.Checks.{RefusedStep, not_final, ArePlain, combines, is_step, reason_of, first_refused}
-use Rattle.refutations.specs.Checks.{is_none_left, end_if, end_refused, refused_step}
+use Rattle.refutations.specs.inner.Checks.{RefusedStep, not_final, ArePlain, combines, is_step, reason_of}
+use Rattle.refutations.specs.inner.Checks.{first_refused}
+use Rattle.refutations.specs.inner.Checks.{is_none_left, end_if, end_refused, refused_step}
 use Rattle.refutations.proofs.Found.{instance-is}
 use Rattle.refutations.proofs.Sets.{is_combination-is}
 

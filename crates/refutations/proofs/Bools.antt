@@ -5,7 +5,7 @@ use Rattle.std.specs.List.{list_all, list_any, find}
 use Rattle.std.proofs.lemmas.Bool.{and_from, or_parts}
 use Rattle.std.proofs.lemmas.Option.{none-some, same_Some}
 use Rattle.model.proofs.Lists.{in_first, in_rest}
-use Rattle.refutations.specs.Instances.{first_place}
+use Rattle.refutations.specs.inner.Instances.{first_place}
 
 -- a test that each element passes
 pub all_pass : {X : Type 0} (p : X → Bool) (xs : List X) → ((x : X) → Contains xs x → p x ≡ true) → list_all p xs ≡ true

@@ -14,13 +14,15 @@ use Rattle.model.specs.Axioms.IsInstance.{root_is, needed, has_target, has_its_f
 use Rattle.model.specs.Axioms.IsInstance.{feature_on, dependency_on, feature_asks, newest_listed, weakly}
 use Rattle.model.specs.Derivation.{SameTerms}
 use Rattle.model.proofs.Same.{both}
-use Rattle.refutations.specs.Terms.{same_terms}
+use Rattle.refutations.specs.inner.Terms.{same_terms}
 use Rattle.refutations.specs.Causes.{Cause, of_root, of_need, of_target, of_feature, of_list, of_ask, of_entry}
 use Rattle.refutations.specs.Causes.{of_enabling, of_asking, of_newest, of_weak, kind_of, enables, dependency_at}
 use Rattle.refutations.specs.Causes.{entries_of, is_cause, terms_of_cause}
-use Rattle.refutations.specs.Instances.{◌>>=◌, first_read, owner_read, version_read, led_read, other_read, feature_read}
-use Rattle.refutations.specs.Instances.{on_read, off_read, ask_read, number_read, needed_unmatched, enabled_unmatched}
-use Rattle.refutations.specs.Instances.{ask_in, list_in, newest_of, cause_in, is_its_if, is_instance}
+use Rattle.refutations.specs.inner.Instances.{◌>>=◌, first_read, owner_read, version_read, led_read, other_read}
+use Rattle.refutations.specs.inner.Instances.{feature_read}
+use Rattle.refutations.specs.inner.Instances.{on_read, off_read, ask_read, number_read, needed_unmatched}
+use Rattle.refutations.specs.inner.Instances.{enabled_unmatched}
+use Rattle.refutations.specs.inner.Instances.{ask_in, list_in, newest_of, cause_in, is_its_if, is_instance}
 use Rattle.refutations.proofs.CauseLaws.{cause_instance}
 use Rattle.refutations.proofs.Sets.{same_terms-is}
 use Rattle.refutations.proofs.FoundTerms.{accept}

@@ -17,8 +17,10 @@ use Rattle.model.proofs.Lists.{to_any}
 use Rattle.model.proofs.Same.{both}
 use Rattle.refutations.specs.Causes.{of_feature, of_entry, of_enabling, of_asking, of_weak, enables, dependency_at}
 use Rattle.refutations.specs.Causes.{is_unmatched, entries_of, terms_with, feature_holds}
-use Rattle.refutations.specs.Instances.{◌>>=◌, first_read, version_read, dep_read, led_read, feature_read, on_read}
-use Rattle.refutations.specs.Instances.{off_read, ask_read, number_read, enabled_unmatched, enabling_in, is_instance}
+use Rattle.refutations.specs.inner.Instances.{◌>>=◌, first_read, version_read, dep_read, led_read, feature_read}
+use Rattle.refutations.specs.inner.Instances.{on_read}
+use Rattle.refutations.specs.inner.Instances.{off_read, ask_read, number_read, enabled_unmatched, enabling_in}
+use Rattle.refutations.specs.inner.Instances.{is_instance}
 use Rattle.refutations.proofs.Bools.{find-there, place-there}
 use Rattle.refutations.proofs.Named.{dep_owner, entry-is, to_entry, to_feature}
 use Rattle.refutations.proofs.CauseLaws.{entry-there, enabling-there, asking-there, weak-there, enabled_by}

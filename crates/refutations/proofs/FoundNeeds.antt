@@ -20,9 +20,9 @@ use Rattle.model.proofs.Lists.{in_cons, in_first}
 use Rattle.model.proofs.Same.{both}
 use Rattle.refutations.specs.Causes.{of_need, of_target, of_list, of_ask, of_newest, is_needed, is_unmatched}
 use Rattle.refutations.specs.Causes.{terms_with}
-use Rattle.refutations.specs.Instances.{◌>>=◌, first_read, read_term, owner_read, dep_read, led_read, other_read}
-use Rattle.refutations.specs.Instances.{off_read, ask_read, needed_unmatched, list_in, newest_of, newest_in}
-use Rattle.refutations.specs.Instances.{is_instance}
+use Rattle.refutations.specs.inner.Instances.{◌>>=◌, first_read, read_term, owner_read, dep_read, led_read}
+use Rattle.refutations.specs.inner.Instances.{other_read, off_read, ask_read, needed_unmatched, list_in, newest_of, newest_in}
+use Rattle.refutations.specs.inner.Instances.{is_instance}
 use Rattle.refutations.proofs.Bools.{place-there}
 use Rattle.refutations.proofs.Named.{needed-is, to_needed, dep_owner}
 use Rattle.refutations.proofs.CauseLaws.{need-there, target-there, list-there, ask-there, newest-there}

@@ -15,9 +15,9 @@ use Rattle.model.proofs.Accepted.{instance_apart}
 use Rattle.model.proofs.Lists.{in_rest, any_of, to_filter, to_map, all_at}
 use Rattle.model.proofs.Spaces.{class_in}
 use Rattle.model.proofs.Terms.{apart-without_full}
-use Rattle.refutations.specs.Terms.{same_terms}
+use Rattle.refutations.specs.inner.Terms.{same_terms}
 use Rattle.refutations.specs.Causes.{Cause, dependency_at, is_unmatched, is_cause, terms_of_cause}
-use Rattle.refutations.specs.Instances.{read_term, owner_read, dep_read, cause_in, is_its_if, is_instance}
+use Rattle.refutations.specs.inner.Instances.{read_term, owner_read, dep_read, cause_in, is_its_if, is_instance}
 use Rattle.refutations.proofs.Bools.{filter-none}
 use Rattle.refutations.proofs.Reading.{Alike, alike, Steady, steady_one, not_full, keeps, last_full, last_kept}
 use Rattle.refutations.proofs.Sets.{same_terms-is}

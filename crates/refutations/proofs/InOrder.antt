@@ -14,7 +14,7 @@ use Rattle.model.proofs.Permuted.{rising-same}
 use Rattle.model.proofs.Same.{vertex-other}
 use Rattle.model.proofs.Spaces.{state_in, state_from}
 use Rattle.model.proofs.Members.{each_at}
-use Rattle.refutations.specs.Terms.{IsInOrder}
+use Rattle.refutations.specs.inner.Terms.{IsInOrder}
 use Rattle.refutations.proofs.Reading.{Alike, alike}
 
 -- what comes before another doesn't come after it

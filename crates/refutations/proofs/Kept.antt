@@ -12,7 +12,7 @@ use Rattle.model.specs.Derivation.{combine, terms_of, IsStep, AreSteps, none_yet
 use Rattle.model.proofs.Accepted.{all-slice_get, all-push}
 use Rattle.model.proofs.Combined.{both_left}
 use Rattle.model.proofs.Lists.{in_filter, all_at}
-use Rattle.refutations.specs.Checks.{HasNoFull}
+use Rattle.refutations.specs.inner.Checks.{HasNoFull}
 use Rattle.refutations.proofs.Bools.{all_pass}
 use Rattle.refutations.proofs.Sets.{term_at}
 

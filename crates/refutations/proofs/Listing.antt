@@ -26,10 +26,13 @@ use Rattle.refutations.specs.Causes.{Cause, of_root, of_need, of_target, of_feat
 use Rattle.refutations.specs.Causes.{of_enabling, of_asking, of_newest, of_weak, same_entry, enables, is_needed}
 use Rattle.refutations.specs.Causes.{dependency_at, has_class, has_entry, some_entry, lists_feature}
 use Rattle.refutations.specs.Causes.{entries_of, table_of_owner, owners, is_cause}
-use Rattle.refutations.specs.Listed.{once, same_cause, numbers, asked_by, names_in, numbers_of, classes_if, classes_at}
-use Rattle.refutations.specs.Listed.{asked_if, class_pool, dep_pool, entry_pool, turned_on, feature_pool, version_pool}
-use Rattle.refutations.specs.Listed.{owner_pool, entries_ask, asked_of_others, had_by, named_features, class_features}
-use Rattle.refutations.specs.Listed.{name_pool, causes}
+use Rattle.refutations.specs.inner.Listed.{once, same_cause, numbers, asked_by, names_in, numbers_of, classes_if}
+use Rattle.refutations.specs.inner.Listed.{classes_at}
+use Rattle.refutations.specs.inner.Listed.{asked_if, class_pool, dep_pool, entry_pool, turned_on, feature_pool}
+use Rattle.refutations.specs.inner.Listed.{version_pool}
+use Rattle.refutations.specs.inner.Listed.{owner_pool, entries_ask, asked_of_others, had_by, named_features}
+use Rattle.refutations.specs.inner.Listed.{class_features}
+use Rattle.refutations.specs.inner.Listed.{name_pool, causes}
 use Rattle.std.proofs.lemmas.List.Elements.{Contains-append_right, Contains-append_left}
 use Rattle.refutations.proofs.CauseLaws.{overtaken-there, weakly-there}
 use Rattle.refutations.proofs.Named.{entry-same, passes-is, dep_owner, has_entry-is, some_entry-is, class-is, lists-is}

@@ -13,7 +13,7 @@ use Rattle.model.proofs.Same.{vertex-same, vertex-refl}
 use Rattle.model.proofs.Lists.{in_none, in_cons, in_first, in_rest, all_at}
 use Rattle.model.proofs.Spaces.{state_in, state_from, absent_in_space}
 use Rattle.model.proofs.Members.{each_at}
-use Rattle.refutations.specs.Instances.{first_of, read_term, first_read}
+use Rattle.refutations.specs.inner.Instances.{first_of, read_term, first_read}
 use Rattle.refutations.proofs.Sets.{term_at}
 
 -- where no vertex stands twice each term is the one that is read at its vertex

@@ -12,8 +12,8 @@ use Rattle.model.proofs.Same.{both, vertex-same, vertex-refl}
 use Rattle.model.proofs.Lists.{in_none, in_cons, in_first, in_rest, to_filter, to_map, to_any, all_at}
 use Rattle.model.proofs.Spaces.{state_in, state_from}
 use Rattle.model.proofs.Tests.{one_test}
-use Rattle.refutations.specs.Terms.{is_within, same_states, same_at, agree, same_terms, speaks_of, vertices_of}
-use Rattle.refutations.specs.Terms.{with_term, terms_at, combination, is_combination}
+use Rattle.refutations.specs.inner.Terms.{is_within, same_states, same_at, agree, same_terms, speaks_of, vertices_of}
+use Rattle.refutations.specs.inner.Terms.{with_term, terms_at, combination, is_combination}
 use Rattle.refutations.proofs.Bools.{all_pass}
 use Rattle.std.proofs.lemmas.List.Elements.{Contains-append_right, Contains-append_left}
 

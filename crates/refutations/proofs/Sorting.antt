@@ -16,7 +16,7 @@ use Rattle.model.proofs.Lists.{pairs_none, pairs_rest}
 use Rattle.model.proofs.Permuted.{pairs-permutation}
 use Rattle.model.proofs.Same.{vertex-refl, vertex-other}
 use Rattle.model.proofs.Members.{all_each, each_at}
-use Rattle.refutations.specs.Terms.{speaks_of, vertices_of, with_term, terms_at, combination}
+use Rattle.refutations.specs.inner.Terms.{speaks_of, vertices_of, with_term, terms_at, combination}
 use Rattle.refutations.proofs.Reading.{states_own}
 use Rattle.refutations.proofs.Sets.{term_at, said_at}
 

@@ -1,5 +1,2 @@
-pub mod Terms
 pub mod Causes
-pub mod Instances
-pub mod Checks
-pub mod Listed
+pub mod inner

@@ -28,11 +28,11 @@ ghost use Rattle.model.specs.Vertices.{State, Vertex};
 ghost use Rattle.model.specs.Axioms.{AreApart, IsInstance, Kind, Term, without_full};
 ghost use Rattle.model.specs.Derivation.{AreSteps, IsAccepted, IsCombined, SameTerms, Step, combined_at, states_at};
 ghost use Rattle.model.specs.Derivation.{terms_of};
-ghost use Rattle.refutations.specs.Terms.{IsInOrder, combination, is_combination, same_terms};
+ghost use Rattle.refutations.specs.inner.Terms.{IsInOrder, combination, is_combination, same_terms};
 ghost use Rattle.refutations.specs.Causes.{Cause, is_cause, kind_of, terms_of_cause};
-ghost use Rattle.refutations.specs.Instances.{is_instance};
-ghost use Rattle.refutations.specs.Checks.{ArePlain, HasNoFull, refused_step};
-ghost use Rattle.refutations.specs.Listed.{causes};
+ghost use Rattle.refutations.specs.inner.Instances.{is_instance};
+ghost use Rattle.refutations.specs.inner.Checks.{ArePlain, HasNoFull, refused_step};
+ghost use Rattle.refutations.specs.inner.Listed.{causes};
 
 /// Two lists of terms pass the comparison exactly where they say the same of every vertex.
 pub fn comparisons_decide()

@@ -6,7 +6,8 @@
 //! The same is told to programs, as JSON, by its module `messages`.
 //!
 //! A layer above may rely on this: what is said of why a package is there is what `changes` promises
-//! (`specs/WhyThere`), and a text `NAME` or `NAME@VERSION` asks for just the package that `specs/Asked` says.
+//! (`specs/inner/WhyThere`), and a text `NAME` or `NAME@VERSION` asks for just the package that `specs/inner/Asked`
+//! says.
 #![tactic(auto)]
 
 mod by_cargo;

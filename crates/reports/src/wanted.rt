@@ -3,7 +3,7 @@
 ghost use Rattle.std.specs.Prelude.{◌≡◌, IfOk, option_map};
 ghost use Rattle.semver.specs.Identifiers.{parts_of};
 ghost use Rattle.semver.specs.Parse.{version_parts};
-ghost use Rattle.reports.specs.Asked.{asked, asked_view, name_of, version_if, with_none, with_version};
+ghost use Rattle.reports.specs.inner.Asked.{asked, asked_view, name_of, version_if, with_none, with_version};
 
 use features::{NameFault, PackageName, name_and_version};
 use lockfile::Package;

@@ -1,8 +1,8 @@
 //! Why a package is in a lock.
 
 ghost use Rattle.std.specs.Prelude.{IfOk};
-ghost use Rattle.changes.specs.Ways.{is_own};
-ghost use Rattle.reports.specs.WhyThere.{IsWhyThere, asks_for};
+ghost use Rattle.changes.specs.inner.Ways.{is_own};
+ghost use Rattle.reports.specs.inner.WhyThere.{IsWhyThere, asks_for};
 ghost use Rattle.model.specs.Optional.{packages_if};
 
 use crate::reporting::{Inputs, loaded};

@@ -17,7 +17,7 @@ use Rattle.resolver.specs.Inputs.IsCutShort.{after_loading}
 use Rattle.resolver.specs.Answers.{AreSkips, CanKeep, HoldsOld, IsAnswer, IsKept, IsMisread, IsNew, IsReply}
 use Rattle.resolver.specs.Answers.{IsUnanswered, IsWritten, MeansSelection, RepliesWith, Resolves, with_skips}
 use Rattle.resolver.specs.Answers.IsAnswer.{kept_lock, new_lock, no_lock}
-use Rattle.resolver.specs.Same.{same_content}
+use Rattle.resolver.specs.inner.Same.{same_content}
 use Rattle.resolver.specs.declared.inputs.Inputs.{Inputs}
 use Rattle.resolver.specs.declared.fault.Fault.{Fault}
 use Rattle.resolver.specs.declared.fault.Fault.TheVariants as fault

@@ -25,7 +25,7 @@ use Rattle.resolver.specs.Inputs.IsInputFault.{by_manifest, by_lock, by_index}
 use Rattle.resolver.specs.Answers.{IsAnswer, Resolves}
 use Rattle.resolver.specs.Answers.IsAnswer.{kept_lock, new_lock, no_lock}
 use Rattle.resolver.specs.CheckedProofs.{Checks}
-use Rattle.resolver.specs.Returning.{FindsProof, to_check}
+use Rattle.resolver.specs.inner.Returning.{FindsProof, to_check}
 use Rattle.resolver.specs.declared.inputs.Inputs.{Inputs}
 use Rattle.resolver.specs.declared.fault.Fault.{Fault}
 use Rattle.resolver.specs.declared.fault.CheckFault.{CheckFault}

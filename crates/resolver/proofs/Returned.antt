@@ -28,7 +28,7 @@ use Rattle.resolver.specs.Inputs.IsInputFault.{by_manifest, by_lock, by_index}
 use Rattle.resolver.specs.Inputs.IsCutShort.{before_loading, while_loading, while_asking, after_loading}
 use Rattle.resolver.specs.Answers.{CanKeep, IsAnswer, IsAnswered, IsUnanswered, MeansSelection, Resolves, Verifies}
 use Rattle.resolver.specs.Answers.IsAnswer.{kept_lock, new_lock, no_lock}
-use Rattle.resolver.specs.Returning.{handed_in, to_verify, ComesBack, FindsValid, IsSomeLock}
+use Rattle.resolver.specs.inner.Returning.{handed_in, to_verify, ComesBack, FindsValid, IsSomeLock}
 use Rattle.resolver.specs.declared.inputs.Inputs.{Inputs}
 use Rattle.resolver.specs.declared.fault.Fault.{Fault}
 use Rattle.resolver.specs.declared.resolving.Answer.{Answer}

@@ -6,7 +6,7 @@ use Rattle.std.specs.List.{list_all, zip}
 use Rattle.model.specs.Content.{Package, Content, same_version, same_option}
 use Rattle.model.specs.Summary.{same_text}
 use Rattle.model.proofs.Same.{both, text-same, text-refl, version-same, version-refl}
-use Rattle.resolver.specs.Same.{same_package, same_content}
+use Rattle.resolver.specs.inner.Same.{same_package, same_content}
 
 -- lists of one length are the same where they are place by place
 pub place_by_place : {X Y : Type 0} (view : X → Y) (same : Y → Y → Bool) (a b : List X) → length a ≡ length b

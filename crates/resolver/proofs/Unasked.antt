@@ -15,7 +15,7 @@ use Rattle.resolver.specs.Faults.{input_wants_memory}
 use Rattle.resolver.specs.Inputs.{RequestView, AreRead, IsInputFault, names_of}
 use Rattle.model.specs.Optional.{packages_if}
 use Rattle.resolver.specs.Answers.{IsAnswer, IsAnswered}
-use Rattle.resolver.specs.Returning.{AreAlike}
+use Rattle.resolver.specs.inner.Returning.{AreAlike}
 use Rattle.resolver.specs.declared.inputs.Inputs.{Inputs}
 use Rattle.resolver.specs.declared.fault.Fault.{Fault}
 use Rattle.resolver.specs.declared.resolving.Answer.{Answer}

@@ -18,7 +18,7 @@ use Rattle.selection.specs.declared.verdict.Verdict.TheVariants.{Valid}
 use Rattle.vertices.proofs.Bound.{same-Ok, same-Some}
 use Rattle.resolver.specs.Answers.{IsAnswered, IsVerdictFor}
 use Rattle.resolver.specs.Inputs.{RequestView, old_of_bytes, problem_of}
-use Rattle.resolver.specs.Returning.{IsSomeLock, files_of, to_verify}
+use Rattle.resolver.specs.inner.Returning.{IsSomeLock, files_of, to_verify}
 use Rattle.resolver.specs.declared.resolving.Answer.{Answer}
 use Rattle.resolver.proofs.Again.{problem-is}
 use Rattle.resolver.proofs.Returned.{locks_selected}

@@ -3,8 +3,8 @@
 ghost use Rattle.std.specs.Prelude.{◌≡◌, option_map};
 ghost use Rattle.std.specs.List.{list_all, zip};
 ghost use Rattle.model.specs.Content.{same_version, same_option};
-ghost use Rattle.lockfile.specs.Views.{package_view, package_views};
-ghost use Rattle.resolver.specs.Same.{same_package, same_content};
+ghost use Rattle.lockfile.specs.inner.Views.{package_view, package_views};
+ghost use Rattle.resolver.specs.inner.Same.{same_package, same_content};
 
 use classes::same_version;
 use lockfile::{LockContent, Package};

@@ -11,13 +11,13 @@ use Rattle.propagation.specs.Promises.{IsNew, IsTrail, LieIn}
 use Rattle.propagation.specs.Trails.{TrailView, set_of, space_of}
 use Rattle.propagation.proofs.SetLemmas.{has_some}
 use Rattle.propagation.proofs.Vertices.{in_range}
-use Rattle.guiding.specs.Searching.{HasSpaces, Pairs}
-use Rattle.guiding.specs.Turning.{HasEnded}
-use Rattle.guiding.specs.Following.{IsDecidedBut}
+use Rattle.guiding.specs.inner.Searching.{HasSpaces, Pairs}
+use Rattle.guiding.specs.inner.Turning.{HasEnded}
+use Rattle.guiding.specs.inner.Following.{IsDecidedBut}
 use Rattle.guiding.specs.declared.turns.Answer.{Answer}
 use Rattle.guiding.specs.declared.turns.Answer.TheVariants.{Selection, Unsolvable}
 use Rattle.guiding.proofs.Selections.{not_broken}
-use Rattle.search_tests.specs.Universes.{AllDecided, AllLie, IsWithinAll, Selects}
+use Rattle.search_tests.specs.inner.Universes.{AllDecided, AllLie, IsWithinAll, Selects}
 
 space_is : (spaces : List ℕ) (t : TrailView) → IsNew spaces t → (u : ℕ) → space_of t u ≡ get_or spaces u 0
 space_is spaces t new u = ap length (new.full u) ∙ length-replicate (get_or spaces u 0) true

@@ -12,15 +12,16 @@ use Rattle.incompatibilities.specs.Stores.{EntryView, entry}
 use Rattle.incompatibilities.specs.declared.origin.Origin.TheVariants.{Axiom}
 use Rattle.propagation.specs.Trails.{TrailView, set_of}
 use Rattle.propagation.specs.Promises.{IsTrail, LieIn}
-use Rattle.propagation.specs.Widening.{IsWider, sum_of}
-use Rattle.propagation.specs.Units.{term_at}
+use Rattle.propagation.specs.inner.Widening.{IsWider, sum_of}
+use Rattle.propagation.specs.inner.Units.{term_at}
 use Rattle.propagation.proofs.Vertices.{place_of, states_of}
 use Rattle.propagation.proofs.Widened.{sum_append, wider_again, wider_none}
-use Rattle.guiding.specs.Searching.{HasSpaces, IsOnly}
-use Rattle.guiding.specs.Turning.{IsAdding}
+use Rattle.guiding.specs.inner.Searching.{HasSpaces, IsOnly}
+use Rattle.guiding.specs.inner.Turning.{IsAdding}
 use Rattle.guiding.proofs.Guides.{adding_nothing, lone_one, spaces_wider}
-use Rattle.search_trials.specs.Meeting.{universe_at}
-use Rattle.search_tests.specs.Demands.{AllFit, HasCome, HasOnly, IsAlone, IsOfPair, IsPutOf, asked_of, pair_at, waits}
+use Rattle.search_trials.specs.inner.Meeting.{universe_at}
+use Rattle.search_tests.specs.inner.Demands.{AllFit, HasCome, HasOnly, IsAlone, IsOfPair, IsPutOf, asked_of, pair_at}
+use Rattle.search_tests.specs.inner.Demands.{waits}
 
 pub one_more : (P : ℕ → Type 0) (n : ℕ) → ((i : ℕ) → i < n → P i) → P n → (i : ℕ) → i < n + 1 → P i
 one_more P n was here i lt = elim (cases_lt i n) [

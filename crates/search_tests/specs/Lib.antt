@@ -1,3 +1,1 @@
-pub mod Demands
-pub mod Spaces
-pub mod Universes
+pub mod inner

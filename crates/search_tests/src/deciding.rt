@@ -1,6 +1,6 @@
 //! What the guides of these tests have in common: which vertex is decided next.
 
-ghost use Rattle.search_tests.specs.Universes.{AllDecided, IsOpen};
+ghost use Rattle.search_tests.specs.inner.Universes.{AllDecided, IsOpen};
 ghost use Rattle.propagation.specs.Trails.{trail_view};
 ghost use Rattle.std.specs.Prelude.{◌≡◌, MatchOption, length};
 

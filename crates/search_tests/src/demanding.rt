@@ -1,14 +1,14 @@
 //! A search whose axioms come into the store once their vertex has their one state left, and whose vertices come onto
 //! the trail once an axiom speaks of them.
 
-ghost use Rattle.search_tests.specs.Demands.{AllFit, HasCome, HasOnly, IsAlone, IsPutOf};
-ghost use Rattle.search_tests.specs.Universes.{Refutes};
-ghost use Rattle.search_trials.specs.Meeting.{AreSmall, universe_at};
+ghost use Rattle.search_tests.specs.inner.Demands.{AllFit, HasCome, HasOnly, IsAlone, IsPutOf};
+ghost use Rattle.search_tests.specs.inner.Universes.{Refutes};
+ghost use Rattle.search_trials.specs.inner.Meeting.{AreSmall, universe_at};
 ghost use Rattle.incompatibilities.specs.Stores.{entries_view};
 ghost use Rattle.propagation.specs.Promises.{IsTrail};
 ghost use Rattle.propagation.specs.Trails.{set_of, trail_view};
-ghost use Rattle.propagation.specs.Widening.{IsWider};
-ghost use Rattle.guiding.specs.Searching.{IsOnly};
+ghost use Rattle.propagation.specs.inner.Widening.{IsWider};
+ghost use Rattle.guiding.specs.inner.Searching.{IsOnly};
 ghost use Rattle.std.specs.Bool.{OnFalse, OnTrue};
 ghost use Rattle.std.specs.Prelude.{◌≡◌, ◌≢◌, ◌<◌, ◌≤◌, ◌∷◌, ◌++◌, [], IfOk, OnOk, length, map};
 ghost use Rattle.terms.specs.Terms.{terms_view};
@@ -223,9 +223,9 @@ impl<S: States + Drop> Demanding<S> {
 }
 
 impl<S: States + Drop> Guide<S> for Demanding<S> {
-    ghost use Rattle.search_tests.specs.Demands.{asked_of};
-    ghost use Rattle.search_tests.specs.Universes.{AllDecided};
-    ghost use Rattle.propagation.specs.Widening.{sum_of};
+    ghost use Rattle.search_tests.specs.inner.Demands.{asked_of};
+    ghost use Rattle.search_tests.specs.inner.Universes.{AllDecided};
+    ghost use Rattle.propagation.specs.inner.Widening.{sum_of};
     ghost use Rattle.std.specs.Prelude.{length, map};
 
     ghost spaces = { λ g. g.spaces.items };

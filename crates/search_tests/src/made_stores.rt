@@ -1,8 +1,8 @@
 //! Stores and guides for the tests; a set of states is written as a number, state 0 its lowest bit.
 
 ghost use Rattle.incompatibilities.specs.Stores.{entries_view};
-ghost use Rattle.search_tests.specs.Universes.{AllLie};
-ghost use Rattle.search_trials.specs.Meeting.{AreSmall};
+ghost use Rattle.search_tests.specs.inner.Universes.{AllLie};
+ghost use Rattle.search_trials.specs.inner.Meeting.{AreSmall};
 ghost use Rattle.std.specs.Prelude.{◌≤◌, IfOk};
 
 use crate::preferring::Preferring;

@@ -1,6 +1,6 @@
 //! Pigeons that come, and axioms of theirs that are added, only once a pigeon before them stands in a hole.
 
-ghost use Rattle.search_trials.specs.Meeting.{AreSmall};
+ghost use Rattle.search_trials.specs.inner.Meeting.{AreSmall};
 ghost use Rattle.std.specs.Prelude.{◌≤◌};
 
 use crate::demanding::{Demanding, Pending, search_on_demand};

@@ -1,15 +1,15 @@
 //! A search whose axioms all stand in the store from the start, with a preferred state for each vertex; it keeps what
 //! the search tells of its conflicts.
 
-ghost use Rattle.search_tests.specs.Universes.{AllDecided, AllLie, IsWithinAll, Prefers, Refutes, Selects};
-ghost use Rattle.search_trials.specs.Meeting.{AreSmall};
+ghost use Rattle.search_tests.specs.inner.Universes.{AllDecided, AllLie, IsWithinAll, Prefers, Refutes, Selects};
+ghost use Rattle.search_trials.specs.inner.Meeting.{AreSmall};
 ghost use Rattle.incompatibilities.specs.Stores.{entries_view};
 ghost use Rattle.propagation.specs.Trails.{trail_view};
 ghost use Rattle.incompatibilities.specs.Incompatibilities.{Assignment};
 ghost use Rattle.propagation.specs.Satisfaction.{BreaksNone};
-ghost use Rattle.guiding.specs.Counting.{HasCounted};
-ghost use Rattle.incompatibilities.specs.Counts.{combinations};
-ghost use Rattle.guiding.specs.Following.{IsSelection};
+ghost use Rattle.guiding.specs.inner.Counting.{HasCounted};
+ghost use Rattle.incompatibilities.specs.inner.Counts.{combinations};
+ghost use Rattle.guiding.specs.inner.Following.{IsSelection};
 ghost use Rattle.std.specs.Prelude.{◌≡◌, ◌+◌, ◌<◌, ◌≤◌, IfOk, length, slice_index_or, true};
 ghost use Rattle.version_sets.specs.Sets.{has, size};
 
@@ -59,7 +59,7 @@ impl Preferring {
 }
 
 impl<S: States + Drop> Guide<S> for Preferring {
-    ghost use Rattle.search_tests.specs.Universes.{AllDecided, Prefers};
+    ghost use Rattle.search_tests.specs.inner.Universes.{AllDecided, Prefers};
     ghost use Rattle.std.specs.Prelude.{◌≡◌, refl, true};
 
     ghost spaces = { λ g. g.spaces.items };

@@ -1,7 +1,7 @@
 //! Combinations and stores: what they hold is written down as numbers.
 
 ghost use Rattle.incompatibilities.specs.Incompatibilities.{LiesIn, states_at};
-ghost use Rattle.search_tests.specs.Spaces.{space};
+ghost use Rattle.search_tests.specs.inner.Spaces.{space};
 ghost use Rattle.std.specs.Prelude.{IfOk};
 ghost use Rattle.terms.specs.Terms.{terms_view};
 

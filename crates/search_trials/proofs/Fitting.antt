@@ -12,9 +12,9 @@ use Rattle.incompatibilities.specs.declared.origin.Origin.TheVariants.{Axiom}
 use Rattle.incompatibilities.proofs.Lookups.{at_first, at_later, or_else, states_at-append}
 use Rattle.propagation.specs.Promises.{IsNew, IsTrail, LieIn, SameSpaces}
 use Rattle.propagation.specs.Trails.{TrailView, set_of, space_of}
-use Rattle.propagation.specs.Widening.{IsWider}
+use Rattle.propagation.specs.inner.Widening.{IsWider}
 use Rattle.propagation.proofs.Soundness.{trail_grown}
-use Rattle.search_trials.specs.Meeting.{AreFit, AreSmall, IsMeeting, universe_at}
+use Rattle.search_trials.specs.inner.Meeting.{AreFit, AreSmall, IsMeeting, universe_at}
 
 -- the terms so far, all at vertices below a number
 pub record AreSoFar (space : ℕ → ℕ) (low : ℕ) (ts : List TermView) : Type 0 where

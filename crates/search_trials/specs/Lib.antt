@@ -1,1 +1,1 @@
-pub mod Meeting
+pub mod inner

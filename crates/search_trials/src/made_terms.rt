@@ -1,6 +1,6 @@
 //! Terms made of vertices and bits.
 
-ghost use Rattle.search_trials.specs.Meeting.{AreFit, AreSmall, universe_at};
+ghost use Rattle.search_trials.specs.inner.Meeting.{AreFit, AreSmall, universe_at};
 ghost use Rattle.std.specs.Option.{IfSome};
 ghost use Rattle.std.specs.Prelude.{◌≡◌, ◌≤◌, IfOk, length};
 ghost use Rattle.terms.specs.Terms.{terms_view};

@@ -25,7 +25,7 @@ pub struct Trial<S: States> {
 impl<S: States> Model for Trial<S> {
     ghost use Rattle.incompatibilities.specs.Stores.{entries_view};
     ghost use Rattle.propagation.specs.Trails.{TrailView, trail_view};
-    ghost use Rattle.search_trials.specs.Meeting.{IsMeeting};
+    ghost use Rattle.search_trials.specs.inner.Meeting.{IsMeeting};
 
     ghost Value = { TrailView };
 

@@ -29,10 +29,12 @@ use Rattle.manifest.specs.Manifests.{ManifestView}
 use Rattle.catalogue.specs.Problems.{problem_in}
 use Rattle.catalogue.specs.Stores.{CatalogueView, IsStore, rows_by_name}
 use Rattle.selection.specs.declared.met.MetVersion.{MetVersion}
-use Rattle.facts.specs.Graphs.{NodeView, flag_at}
-use Rattle.selection.specs.Contents.{AreInOrder, AreKept, AreListed, IsPackage, IsPlace, LeadsFrom, AreMetVersions}
-use Rattle.selection.specs.Contents.{IsThere, owner_if, owners_of, met_owner, Placed, kept_with, package_if, places_in}
-use Rattle.model.specs.ContentOf.{package_of}
+use Rattle.facts.specs.inner.Graphs.{NodeView, flag_at}
+use Rattle.selection.specs.inner.Contents.{AreInOrder, AreKept, AreListed, IsPackage, IsPlace, LeadsFrom}
+use Rattle.selection.specs.inner.Contents.{AreMetVersions}
+use Rattle.selection.specs.inner.Contents.{IsThere, owner_if, owners_of, met_owner, Placed, kept_with, package_if}
+use Rattle.selection.specs.inner.Contents.{places_in}
+use Rattle.model.specs.inner.ContentOf.{package_of}
 use Rattle.facts.specs.Built.{IsBuilt}
 use Rattle.selection.proofs.MetVersions.{once_at, rising_of, owners_once, some_is}
 use Rattle.model.proofs.Inner.{name_in, version_in}

@@ -13,13 +13,13 @@ use Rattle.model.specs.Vertices.{Owner, owner_brings}
 use Rattle.model.specs.Stands.{IsReachedFact}
 use Rattle.model.specs.Walk.{IsComplete, Picks}
 use Rattle.manifest.specs.Manifests.{root_asks}
-use Rattle.facts.specs.Graphs.{NodeView, node_view, node_views, flag_at, flag_in}
+use Rattle.facts.specs.inner.Graphs.{NodeView, node_view, node_views, flag_at, flag_in}
 use Rattle.facts.specs.declared.node.Node.{Node}
-use Rattle.facts.specs.Nodes.{AreFlags, AreMet, IsLead}
+use Rattle.facts.specs.inner.Nodes.{AreFlags, AreMet, IsLead}
 use Rattle.facts.proofs.Found.{enabled_far, near_of, node_at, owner_there, stands}
-use Rattle.selection.specs.Followed.{AreFollowed, PicksFollowed}
-use Rattle.selection.specs.Met.{are_met, all_met}
-use Rattle.selection.specs.Rounds.{AreEnough}
+use Rattle.selection.specs.inner.Followed.{AreFollowed, PicksFollowed}
+use Rattle.selection.specs.inner.Met.{are_met, all_met}
+use Rattle.selection.specs.inner.Rounds.{AreEnough}
 use Rattle.selection.proofs.Followed.{already, stands_still, still}
 
 is_met : (t : Option ℕ) (b : Bool) → (is_some t || not b) ≡ true → b ≡ true → is_some t ≡ true

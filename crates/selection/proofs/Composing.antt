@@ -10,14 +10,14 @@ use Rattle.model.specs.Selection.{IsValidSelection, IsReached}
 use Rattle.model.specs.Verdict.{VerdictFault}
 use Rattle.model.specs.WellFormed.{IsContent}
 use Rattle.model.proofs.Verdicts.{valid_iff}
-use Rattle.lockfile.specs.Views.{package_view}
+use Rattle.lockfile.specs.inner.Views.{package_view}
 use Rattle.manifest.specs.Manifests.{ManifestView}
 use Rattle.catalogue.specs.Problems.{problem_in}
 use Rattle.catalogue.specs.Stores.{CatalogueView}
-use Rattle.facts.specs.Graphs.{node_view, node_views, flag_at, flag_in, IsFactOf, LacksFeature}
+use Rattle.facts.specs.inner.Graphs.{node_view, node_views, flag_at, flag_in, IsFactOf, LacksFeature}
 use Rattle.facts.specs.declared.node.Node.{Node}
-use Rattle.selection.specs.Graphs.{node_of, graph_of, is_known, are_known, IsOnlyRoot, HasNoRoot}
-use Rattle.selection.specs.Places.{content_in, AreFindings}
+use Rattle.selection.specs.inner.Graphs.{node_of, graph_of, is_known, are_known, IsOnlyRoot, HasNoRoot}
+use Rattle.selection.specs.inner.Places.{content_in, AreFindings}
 use Rattle.selection.specs.Verdicts.{IsAt, IsInvalid, IsVerdictOn, IsFaultOf}
 use Rattle.selection.specs.declared.findings.Findings.{Findings}
 use Rattle.selection.specs.declared.verdict.VerdictFault as said

@@ -12,11 +12,12 @@ use Rattle.model.specs.Selection.{IsRootAt, IsPlace, HasTarget, IsFact}
 use Rattle.model.proofs.Orders.{last_is}
 use Rattle.model.proofs.Places.{some_at}
 use Rattle.manifest.specs.Manifests.{root_asks}
-use Rattle.facts.specs.Graphs.{NodeView, brings_if, starts_if, target_if, brings_at, starts_at, target_at, IsFactOf}
-use Rattle.facts.specs.Graphs.{LacksFeature, IsGraph, AreWithin}
+use Rattle.facts.specs.inner.Graphs.{NodeView, brings_if, starts_if, target_if, brings_at, starts_at, target_at}
+use Rattle.facts.specs.inner.Graphs.{IsFactOf}
+use Rattle.facts.specs.inner.Graphs.{LacksFeature, IsGraph, AreWithin}
 use Rattle.facts.proofs.Mapped.{HoldsFar, holds_far}
-use Rattle.selection.specs.Graphs.{node_of, graph_of, IsOnlyRoot}
-use Rattle.selection.specs.Places.{Lacks}
+use Rattle.selection.specs.inner.Graphs.{node_of, graph_of, IsOnlyRoot}
+use Rattle.selection.specs.inner.Places.{Lacks}
 
 -- a target is a place of the content
 target_within : (content : Content) (d : Dependency) (list : List ℕ) (t : ℕ)

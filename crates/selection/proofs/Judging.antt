@@ -11,12 +11,12 @@ use Rattle.model.specs.Content.{last_serving, list_if, target_of}
 use Rattle.model.specs.Selection.{IsFact, HasTarget, IsTarget}
 use Rattle.model.specs.Verdict.{not_candidate, two_in_class, unmet, no_feature, wrong_list, unreached, IsFreeOf}
 use Rattle.model.proofs.Orders.{last_is}
-use Rattle.facts.specs.Graphs.{NodeView, node_view, node_views, flag_at}
+use Rattle.facts.specs.inner.Graphs.{NodeView, node_view, node_views, flag_at}
 use Rattle.facts.specs.declared.node.Node.{Node}
-use Rattle.selection.specs.Graphs.{targets_in, node_of, graph_of, is_known, are_known}
-use Rattle.selection.specs.Places.{AreMet, IsLedTo, IsChecked, Lacks, content_in, AreFindings}
+use Rattle.selection.specs.inner.Graphs.{targets_in, node_of, graph_of, is_known, are_known}
+use Rattle.selection.specs.inner.Places.{AreMet, IsLedTo, IsChecked, Lacks, content_in, AreFindings}
 use Rattle.selection.specs.declared.findings.Findings.{Findings}
-use Rattle.lockfile.specs.Views.{package_view}
+use Rattle.lockfile.specs.inner.Views.{package_view}
 use Rattle.lockfile.specs.declared.package.Package as code
 use Rattle.selection.specs.declared.checked.Checked.{Checked}
 

@@ -7,8 +7,8 @@ use Rattle.std.proofs.lemmas.Bool.{cases_lt, eqb-true, eq-eqb, and_from}
 use Rattle.std.proofs.lemmas.Bool.Decides.{nat_tests}
 use Rattle.std.proofs.lemmas.Option.{none-some, same_Some, slice_get_within}
 use Rattle.model.proofs.Same.{both}
-use Rattle.facts.specs.Graphs.{flag_at}
-use Rattle.selection.specs.Places.{target_given, enabled_target, with_target, is_missing, AreMet, IsLedTo}
+use Rattle.facts.specs.inner.Graphs.{flag_at}
+use Rattle.selection.specs.inner.Places.{target_given, enabled_target, with_target, is_missing, AreMet, IsLedTo}
 
 nat_tie : (x y : ℕ) → is_eq (nat_cmp x y) ≡ nat_eq x y
 nat_tie x y = grind (arith, nat_tests)

@@ -14,7 +14,7 @@ use Rattle.catalogue.specs.Problems.{problem_in}
 use Rattle.catalogue.specs.Stores.{CatalogueView, candidates_at, record_at, rows_by_name}
 use Rattle.catalogue.specs.Views.{Said, said}
 use Rattle.catalogue.proofs.Lookups.{candidate_found}
-use Rattle.selection.specs.Graphs.{is_known}
+use Rattle.selection.specs.inner.Graphs.{is_known}
 
 -- of the run's source
 pub of_source : (c : CatalogueView) (m : ManifestView) (p : Package) → same_option p.source (Some c.source) ≡ true

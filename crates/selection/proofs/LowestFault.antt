@@ -8,7 +8,7 @@ use Rattle.model.specs.Content.{Package, Content, Problem}
 use Rattle.model.specs.Selection.{IsPlace}
 use Rattle.model.specs.Verdict.{VerdictFault, not_candidate, two_in_class, unmet, no_feature, wrong_list, unreached}
 use Rattle.model.specs.Verdict.{number_of, HasRoot, IsFaultless, IsFirstFault}
-use Rattle.selection.specs.Places.{is_free, lowest_of, lowest, fault_of, IsChecked, content_in, AreFindings}
+use Rattle.selection.specs.inner.Places.{is_free, lowest_of, lowest, fault_of, IsChecked, content_in, AreFindings}
 use Rattle.selection.specs.declared.findings.Findings.{Findings}
 use Rattle.selection.specs.Verdicts.{IsAt, IsInvalid, IsVerdictOn, IsFaultOf}
 use Rattle.selection.specs.declared.checked.Checked.{Checked}

@@ -8,10 +8,10 @@ use Rattle.model.specs.Content.{Problem}
 use Rattle.model.specs.Vertices.{Owner, owner_brings}
 use Rattle.model.proofs.Lists.{all_none, pairs_none}
 use Rattle.model.proofs.Places.{some_at, get_push_cases}
-use Rattle.facts.specs.Graphs.{NodeView}
+use Rattle.facts.specs.inner.Graphs.{NodeView}
 use Rattle.catalogue.specs.Stores.{CatalogueView, IsStore}
-use Rattle.facts.specs.Nodes.{AreLeads, AreMet, IsLead, IsNode}
-use Rattle.selection.specs.Contents.{AreMetVersions, Grows, IsThere, owners_of}
+use Rattle.facts.specs.inner.Nodes.{AreLeads, AreMet, IsLead, IsNode}
+use Rattle.selection.specs.inner.Contents.{AreMetVersions, Grows, IsThere, owners_of}
 use Rattle.selection.specs.declared.met.MetVersion.{MetVersion}
 use Rattle.selection.proofs.MetVersions.{many_owners, owner_on, owners_once}
 

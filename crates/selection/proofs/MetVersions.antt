@@ -16,7 +16,7 @@ use Rattle.indexmap.specs.IndexSet.{insert_key}
 use Rattle.semver.specs.Parse.{Parts}
 use Rattle.model.specs.Summary.{same_text}
 use Rattle.model.specs.Content.{Candidate, Package, brings_of, candidate_at, candidates_of}
-use Rattle.model.specs.ContentOf.{package_of}
+use Rattle.model.specs.inner.ContentOf.{package_of}
 use Rattle.model.specs.Candidates.{IsOlder, Record, as_candidate}
 use Rattle.model.specs.Order.{precedence}
 use Rattle.model.specs.Vertices.{Owner, the_root, version_of, owner_brings}
@@ -33,8 +33,9 @@ use Rattle.catalogue.specs.Problems.{problem_in}
 use Rattle.catalogue.specs.Stores.{CatalogueView, IsStore, Row, candidates_at, row_at, rows_by_name}
 use Rattle.catalogue.specs.Views.{AreRising, Said, said}
 use Rattle.catalogue.proofs.Rows.{item_at}
-use Rattle.selection.specs.Contents.{AreMetVersions, Grows, IsCandidate, IsThere, candidate_owner, owner_if, owners_of}
-use Rattle.selection.specs.Contents.{same_met, met_owner}
+use Rattle.selection.specs.inner.Contents.{AreMetVersions, Grows, IsCandidate, IsThere, candidate_owner, owner_if}
+use Rattle.selection.specs.inner.Contents.{owners_of}
+use Rattle.selection.specs.inner.Contents.{same_met, met_owner}
 use Rattle.selection.specs.declared.met.MetVersion.{MetVersion}
 use Rattle.selection.proofs.Rows.{versions_are}
 

@@ -6,7 +6,7 @@ use Rattle.model.specs.Content.{Package, Content, Problem, is_root, same_version
 use Rattle.model.specs.WellFormed.{IsContent}
 use Rattle.model.proofs.Contents.{no_two_alike}
 use Rattle.model.proofs.Same.{both, text-same, version-same}
-use Rattle.selection.specs.Graphs.{IsOnlyRoot}
+use Rattle.selection.specs.inner.Graphs.{IsOnlyRoot}
 
 -- what makes a package the root
 record IsAsRoot (q : Problem) (p : Package) : Type 0 where

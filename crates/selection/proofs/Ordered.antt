@@ -11,10 +11,10 @@ use Rattle.std.proofs.lemmas.Option.{slice_get-get_or, get_or_from_slice_get}
 use Rattle.model.specs.Content.{Package}
 use Rattle.model.specs.Order.{package_cmp}
 use Rattle.model.proofs.Permuted.{pairs-permutation}
-use Rattle.lockfile.specs.Views.{package_view}
+use Rattle.lockfile.specs.inner.Views.{package_view}
 use Rattle.model.proofs.PackageOrder.{package_total}
 use Rattle.model.proofs.Places.{map_at}
-use Rattle.selection.specs.Contents.{AreInOrder, Placed, placed_view, placed_views}
+use Rattle.selection.specs.inner.Contents.{AreInOrder, Placed, placed_view, placed_views}
 use Rattle.selection.specs.declared.placed.PlacedPackage.{PlacedPackage}
 
 less : (o p : Ordering) → o ≡ ordering_reverse p → is_lt p ≡ false → o ≢ Equal → o ≡ Less

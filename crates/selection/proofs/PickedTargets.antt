@@ -12,15 +12,15 @@ use Rattle.model.specs.Vertices.{Owner, version_of}
 use Rattle.model.proofs.Lists.{pairs_get}
 use Rattle.model.proofs.Places.{get_push_cases}
 use Rattle.catalogue.specs.Stores.{CatalogueView, IsStore}
-use Rattle.facts.specs.Graphs.{NodeView, flag_at, flag_in}
-use Rattle.facts.specs.Nodes.{AreLeads, IsLead}
-use Rattle.selection.specs.Contents.{AreMetVersions, Grows, candidate_owner, owner_if, owners_of}
+use Rattle.facts.specs.inner.Graphs.{NodeView, flag_at, flag_in}
+use Rattle.facts.specs.inner.Nodes.{AreLeads, IsLead}
+use Rattle.selection.specs.inner.Contents.{AreMetVersions, Grows, candidate_owner, owner_if, owners_of}
 use Rattle.selection.specs.declared.met.MetVersion.{MetVersion}
 use Rattle.selection.proofs.MetVersions.{grows_on, owner_on, owners_once}
 use Rattle.selection.proofs.MetNodes.{SoFar}
-use Rattle.selection.specs.Followed.{PicksFollowed, is_followed}
+use Rattle.selection.specs.inner.Followed.{PicksFollowed, is_followed}
 use Rattle.selection.specs.Preferred.{preferred_in}
-use Rattle.selection.specs.Met.{ArePicks, IsPick, IsPickIf, place_picked}
+use Rattle.selection.specs.inner.Met.{ArePicks, IsPick, IsPickIf, place_picked}
 use Rattle.selection.proofs.Picks.{one_picked}
 
 -- ---- where a pick leads

@@ -14,7 +14,7 @@ use Rattle.std.specs.List.Sorted.{IsPermutation, IsSorted}
 use Rattle.std.specs.List.Retain.{DiffersFromLast, IsFiltered}
 use Rattle.std.specs.declared.alloc.Global.{Global}
 use Rattle.std.specs.declared.alloc.AllocError.{AllocError}
-use Rattle.lockfile.specs.Views.{package_views}
+use Rattle.lockfile.specs.inner.Views.{package_views}
 use Rattle.lockfile.specs.declared.package.Package.{Package}
 use Rattle.std.proofs.lemmas.List.{append_assoc, length-append, length-set, get_or-set_same, get_or-set_other}
 use Rattle.std.proofs.lemmas.List.Filters.{dedup_is}
@@ -26,10 +26,11 @@ use Rattle.std.proofs.lemmas.Option.{none-some}
 use Rattle.model.proofs.Lists.{in_none, in_cons, in_first, in_rest, pairs_get}
 use Rattle.model.proofs.Places.{get_push_cases, map_at}
 use Rattle.catalogue.proofs.Rows.{item_at}
-use Rattle.facts.specs.Graphs.{NodeView, flag_at, node_view, node_views, target_at, target_if}
+use Rattle.facts.specs.inner.Graphs.{NodeView, flag_at, node_view, node_views, target_at, target_if}
 use Rattle.facts.specs.declared.node.Node.{Node}
-use Rattle.selection.specs.Contents.{AreBeside, AreListed, AreRanks, HaveLists, Placed, places_in, IsListed, IsRising}
-use Rattle.selection.specs.Contents.{after, targets_at, targets_if, rank_if, ranks_from, with_rank}
+use Rattle.selection.specs.inner.Contents.{AreBeside, AreListed, AreRanks, HaveLists, Placed, places_in, IsListed}
+use Rattle.selection.specs.inner.Contents.{IsRising}
+use Rattle.selection.specs.inner.Contents.{after, targets_at, targets_if, rank_if, ranks_from, with_rank}
 use Rattle.model.specs.Content.{Content}
 
 -- ---- the ranks of enabled targets

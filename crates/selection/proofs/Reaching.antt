@@ -5,8 +5,8 @@ use Rattle.std.specs.List.{All}
 use Rattle.std.proofs.lemmas.List.{append-nil, drop_all, take_all}
 use Rattle.std.proofs.lemmas.Option.{slice_get_within, none-some, same_Some}
 use Rattle.std.proofs.lemmas.List.Elements.{Contains-append_left, Contains-append_cases, Contains-append_right}
-use Rattle.facts.specs.Chains.{has, IsGiven, AreBelow}
-use Rattle.facts.specs.Chains.IsGiven.{begins, follows}
+use Rattle.facts.specs.inner.Chains.{has, IsGiven, AreBelow}
+use Rattle.facts.specs.inner.Chains.IsGiven.{begins, follows}
 use Rattle.facts.specs.declared.rule.Rule.{Rule}
 use Rattle.model.specs.Content.{Package, Content, Problem}
 use Rattle.model.specs.Selection.{IsReached}
@@ -15,8 +15,8 @@ use Rattle.model.specs.WellFormed.{IsContent}
 use Rattle.model.proofs.Contents.{within_at}
 use Rattle.model.proofs.Lists.{in_none, in_map, to_map}
 use Rattle.model.proofs.Members.{all_in}
-use Rattle.selection.specs.Graphs.{IsOnlyRoot}
-use Rattle.selection.specs.Places.{rules_at, rules_from}
+use Rattle.selection.specs.inner.Graphs.{IsOnlyRoot}
+use Rattle.selection.specs.inner.Places.{rules_at, rules_from}
 
 -- a rule is one of a package's list
 pub record IsListed (n : ℕ) (ps : Content) (r : Rule) : Type 0 where

@@ -19,10 +19,10 @@ use Rattle.model.proofs.Contents.{older_first}
 use Rattle.model.proofs.Lists.{pairs_get}
 use Rattle.model.proofs.Orders.{class_above}
 use Rattle.model.proofs.Same.{both, text-same, text-refl, class-same, class-refl}
-use Rattle.lockfile.specs.Views.{package_view, package_views}
+use Rattle.lockfile.specs.inner.Views.{package_view, package_views}
 use Rattle.lockfile.specs.declared.package.Package as code
-use Rattle.selection.specs.Graphs.{IsOnlyRoot}
-use Rattle.selection.specs.Names.{is_like}
+use Rattle.selection.specs.inner.Graphs.{IsOnlyRoot}
+use Rattle.selection.specs.inner.Names.{is_like}
 
 -- a package of the program at its place
 pub view_at : (ps : List code.Package) (n : ℕ) (p : code.Package) → n < length ps → get_or ps n p ≡ p

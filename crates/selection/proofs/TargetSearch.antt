@@ -21,9 +21,9 @@ use Rattle.model.proofs.Same.{text-same}
 use Rattle.model.proofs.Contents.{text-equal}
 use Rattle.model.proofs.Tests.{below-less, index-most}
 use Rattle.lockfile.proofs.Ranges.{then-assoc}
-use Rattle.catalogue.specs.Bounds.{is_beyond}
+use Rattle.catalogue.specs.inner.Bounds.{is_beyond}
 use Rattle.catalogue.proofs.Bounded.{beyond_after, not_beyond}
-use Rattle.selection.specs.Names.{is_past, name_cmp, past_by}
+use Rattle.selection.specs.inner.Names.{is_past, name_cmp, past_by}
 use Rattle.selection.proofs.NameOrder.{names_rise}
 
 not_false : (b : Bool) → not b ≡ false → b ≡ true

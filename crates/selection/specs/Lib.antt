@@ -3,12 +3,6 @@ pub use Rattle.model.specs.Walk
 pub use Rattle.catalogue.specs.Problems
 pub use Rattle.facts.specs.Built
 pub mod Verdicts
-pub mod Graphs
-pub mod Names
 pub mod Texts
-pub mod Places
-pub mod Contents
 pub mod Preferred
-pub mod Met
-pub mod Followed
-pub mod Rounds
+pub mod inner

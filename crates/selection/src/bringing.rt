@@ -4,7 +4,7 @@ ghost use Rattle.std.specs.Prelude.{◌≡◌, Some, slice_get};
 ghost use Rattle.model.specs.Vertices.{Owner, owner_brings};
 ghost use Rattle.features.specs.Views.{brings_view};
 ghost use Rattle.catalogue.specs.Problems.{problem_in};
-ghost use Rattle.selection.specs.Contents.{AreMetVersions, owners_of};
+ghost use Rattle.selection.specs.inner.Contents.{AreMetVersions, owners_of};
 
 use crate::met::{MetVersion, store_holds};
 use catalogue::Catalogue;

@@ -4,15 +4,15 @@ ghost use Rattle.std.specs.Prelude.{◌≡◌, ◌≢◌, [], Some, IfOk, OnOk, 
 ghost use Rattle.std.specs.List.{AllPairs};
 ghost use Rattle.std.specs.List.Sorted.{IsPermutation};
 ghost use Rattle.std.specs.declared.cmp.Ordering.TheVariants.{Equal};
-ghost use Rattle.facts.specs.Graphs.{node_views};
+ghost use Rattle.facts.specs.inner.Graphs.{node_views};
 ghost use Rattle.catalogue.specs.Problems.{problem_in};
-ghost use Rattle.lockfile.specs.Views.{package_view};
+ghost use Rattle.lockfile.specs.inner.Views.{package_view};
 ghost use Rattle.model.specs.Vertices.{the_root};
 ghost use Rattle.model.specs.Order.{package_cmp};
-ghost use Rattle.model.specs.ContentOf.{package_of};
+ghost use Rattle.model.specs.inner.ContentOf.{package_of};
 ghost use Rattle.facts.specs.Built.{IsBuilt};
-ghost use Rattle.selection.specs.Contents.{AreInOrder, AreKept, AreMetVersions, IsThere, placed_views, kept_with};
-ghost use Rattle.selection.specs.Contents.{met_owner, owners_of, package_if};
+ghost use Rattle.selection.specs.inner.Contents.{AreInOrder, AreKept, AreMetVersions, IsThere, placed_views, kept_with};
+ghost use Rattle.selection.specs.inner.Contents.{met_owner, owners_of, package_if};
 
 use crate::listing::listed;
 use crate::met::{MetVersion, store_holds};

@@ -4,9 +4,9 @@ ghost use Rattle.std.specs.Prelude.{◌≡◌, ◌↔◌, ◌<◌, ◌≤◌, �
 ghost use Rattle.model.specs.Content.{Problem};
 ghost use Rattle.model.specs.Verdict.{IsFreeOf, two_in_class};
 ghost use Rattle.model.specs.WellFormed.{IsContent};
-ghost use Rattle.lockfile.specs.Views.{package_view, package_views};
-ghost use Rattle.selection.specs.Graphs.{IsOnlyRoot};
-ghost use Rattle.selection.specs.Names.{is_like};
+ghost use Rattle.lockfile.specs.inner.Views.{package_view, package_views};
+ghost use Rattle.selection.specs.inner.Graphs.{IsOnlyRoot};
+ghost use Rattle.selection.specs.inner.Names.{is_like};
 
 use classes::{Class, same_class};
 use lockfile::Package;

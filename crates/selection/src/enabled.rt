@@ -3,8 +3,8 @@
 ghost use Rattle.std.specs.Prelude.{◌≡◌, ◌↔◌, ◌<◌, ℕ, true, slice_get, IfOk, OnOk, Contains, ◌&&◌};
 ghost use Rattle.std.specs.BTreeSet.{contains};
 ghost use Rattle.std.specs.Ordering.{nat_cmp};
-ghost use Rattle.facts.specs.Graphs.{flag_at};
-ghost use Rattle.selection.specs.Places.{AreMet, IsLedTo, is_missing, enabled_target, with_target};
+ghost use Rattle.facts.specs.inner.Graphs.{flag_at};
+ghost use Rattle.selection.specs.inner.Places.{AreMet, IsLedTo, is_missing, enabled_target, with_target};
 
 use facts::flag;
 use std::alloc::{AllocError, Global};

@@ -2,7 +2,7 @@
 
 ghost use Rattle.std.specs.Prelude.{IfOk};
 ghost use Rattle.catalogue.specs.Problems.{problem_in};
-ghost use Rattle.selection.specs.Places.{AreFound};
+ghost use Rattle.selection.specs.inner.Places.{AreFound};
 
 use crate::nodes::nodes;
 use crate::reached::reached;

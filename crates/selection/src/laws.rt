@@ -16,7 +16,7 @@ ghost use Rattle.catalogue.specs.Problems.{problem_in};
 ghost use Rattle.catalogue.specs.Ranks.{AreRanked};
 ghost use Rattle.catalogue.specs.Runs.{Asked};
 ghost use Rattle.catalogue.specs.Stores.{CatalogueView, ranked_at};
-ghost use Rattle.selection.specs.Followed.{AreFollowed, PicksFollowed};
+ghost use Rattle.selection.specs.inner.Followed.{AreFollowed, PicksFollowed};
 ghost use Rattle.selection.specs.Preferred.{preferred_by, preferred_in};
 
 use catalogue::{Catalogue, catalogues_are_well_formed};

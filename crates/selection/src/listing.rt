@@ -2,10 +2,11 @@
 
 ghost use Rattle.std.specs.Prelude.{◌≡◌, ◌≢◌, ◌↔◌, ◌<◌, ℕ, Some, Contains, IfOk, OnOk, length, map};
 ghost use Rattle.std.specs.List.{All, AllPairs};
-ghost use Rattle.facts.specs.Graphs.{node_views};
-ghost use Rattle.lockfile.specs.Views.{package_views};
-ghost use Rattle.selection.specs.Contents.{AreListed, AreRanks, HaveLists, IsListed, IsRising, flags_at, placed_views};
-ghost use Rattle.selection.specs.Contents.{places_in, rank_if, ranks_from, targets_at, with_rank};
+ghost use Rattle.facts.specs.inner.Graphs.{node_views};
+ghost use Rattle.lockfile.specs.inner.Views.{package_views};
+ghost use Rattle.selection.specs.inner.Contents.{AreListed, AreRanks, HaveLists, IsListed, IsRising, flags_at};
+ghost use Rattle.selection.specs.inner.Contents.{placed_views};
+ghost use Rattle.selection.specs.inner.Contents.{places_in, rank_if, ranks_from, targets_at, with_rank};
 
 use crate::placed::PlacedPackage;
 use facts::{Facts, Node, flag, flags};

@@ -2,13 +2,13 @@
 
 ghost use Rattle.std.specs.Prelude.{◌≡◌, ◌||◌, IfOk, OnOk, map, nat_eq};
 ghost use Rattle.features.specs.Views.{dependency_view, dependency_views};
-ghost use Rattle.facts.specs.Graphs.{node_views};
-ghost use Rattle.facts.specs.Nodes.{AreMet};
+ghost use Rattle.facts.specs.inner.Graphs.{node_views};
+ghost use Rattle.facts.specs.inner.Nodes.{AreMet};
 ghost use Rattle.catalogue.specs.Problems.{problem_in};
-ghost use Rattle.selection.specs.Contents.{AreMetVersions, Grows, owners_of};
-ghost use Rattle.selection.specs.Followed.{PicksFollowed, is_followed};
+ghost use Rattle.selection.specs.inner.Contents.{AreMetVersions, Grows, owners_of};
+ghost use Rattle.selection.specs.inner.Followed.{PicksFollowed, is_followed};
 ghost use Rattle.selection.specs.Preferred.{preferred_in};
-ghost use Rattle.selection.specs.Met.{AreOrders, ArePicks, IsPick, IsPickIf};
+ghost use Rattle.selection.specs.inner.Met.{AreOrders, ArePicks, IsPick, IsPickIf};
 
 use crate::bringing::brings_at;
 use crate::met::{MetVersion, store_holds};

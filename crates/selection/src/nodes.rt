@@ -3,10 +3,10 @@
 ghost use Rattle.std.specs.Prelude.{◌≡◌, ◌<◌, length, map, IfOk, is_some};
 ghost use Rattle.std.specs.List.{All, AllPairs};
 ghost use Rattle.model.specs.WellFormed.{IsContent};
-ghost use Rattle.lockfile.specs.Views.{package_view, package_views};
+ghost use Rattle.lockfile.specs.inner.Views.{package_view, package_views};
 ghost use Rattle.catalogue.specs.Problems.{problem_in};
-ghost use Rattle.facts.specs.Graphs.{node_view, node_views};
-ghost use Rattle.selection.specs.Graphs.{node_of, graph_of, is_known, are_known};
+ghost use Rattle.facts.specs.inner.Graphs.{node_view, node_views};
+ghost use Rattle.selection.specs.inner.Graphs.{node_of, graph_of, is_known, are_known};
 
 use crate::summaries::summary_of;
 use crate::targets::targets;

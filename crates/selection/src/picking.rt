@@ -4,7 +4,7 @@ ghost use Rattle.std.specs.Prelude.{◌≡◌, IfOk, OnOk, map, option_map, slic
 ghost use Rattle.std.specs.List.{find};
 ghost use Rattle.semver.specs.Identifiers.{parts_of};
 ghost use Rattle.features.specs.Views.{dependency_view, requirement_view};
-ghost use Rattle.selection.specs.Met.{AreOrders, is_matched, order_at, place_picked};
+ghost use Rattle.selection.specs.inner.Met.{AreOrders, is_matched, order_at, place_picked};
 
 use catalogue::Catalogue;
 use features::{DependencyParts, PackageName};

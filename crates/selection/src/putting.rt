@@ -1,7 +1,7 @@
 //! Versions that are met, each once.
 
 ghost use Rattle.std.specs.Prelude.{◌≡◌, ◌<◌, ◌^◌, IfOk, OnOk, Some, length, slice_get};
-ghost use Rattle.selection.specs.Contents.{Grows, IsCandidate, candidate_owner, owners_of};
+ghost use Rattle.selection.specs.inner.Contents.{Grows, IsCandidate, candidate_owner, owners_of};
 
 use crate::met::MetVersion;
 use catalogue::Catalogue;

@@ -4,10 +4,10 @@ ghost use Rattle.std.specs.Prelude.{◌≡◌, ◌↔◌, ◌<◌, ◌++◌, ℕ
 ghost use Rattle.model.specs.Content.{Problem};
 ghost use Rattle.model.specs.Selection.{IsReached};
 ghost use Rattle.model.specs.WellFormed.{IsContent};
-ghost use Rattle.lockfile.specs.Views.{package_views};
-ghost use Rattle.facts.specs.Graphs.{flag_at};
-ghost use Rattle.selection.specs.Graphs.{IsOnlyRoot};
-ghost use Rattle.selection.specs.Places.{rules_at, rules_from};
+ghost use Rattle.lockfile.specs.inner.Views.{package_views};
+ghost use Rattle.facts.specs.inner.Graphs.{flag_at};
+ghost use Rattle.selection.specs.inner.Graphs.{IsOnlyRoot};
+ghost use Rattle.selection.specs.inner.Places.{rules_at, rules_from};
 
 use facts::{Rule, close};
 use lockfile::Package;

@@ -3,10 +3,10 @@
 ghost use Rattle.std.specs.Prelude.{◌<◌, length, MatchOption};
 ghost use Rattle.model.specs.Content.{is_root};
 ghost use Rattle.model.specs.WellFormed.{IsContent};
-ghost use Rattle.lockfile.specs.Views.{package_views};
+ghost use Rattle.lockfile.specs.inner.Views.{package_views};
 ghost use Rattle.catalogue.specs.Problems.{problem_in};
 ghost use Rattle.catalogue.specs.Stores.{CatalogueView};
-ghost use Rattle.selection.specs.Graphs.{IsOnlyRoot, HasNoRoot};
+ghost use Rattle.selection.specs.inner.Graphs.{IsOnlyRoot, HasNoRoot};
 
 use crate::summaries::is_root;
 use lockfile::Package;

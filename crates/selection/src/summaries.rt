@@ -3,11 +3,11 @@
 ghost use Rattle.std.specs.Prelude.{◌≡◌, Some, option_map, is_some};
 ghost use Rattle.model.specs.Content.{is_root, candidate_of, summary_of, same_option};
 ghost use Rattle.features.specs.Views.{summary_view, brings_view};
-ghost use Rattle.lockfile.specs.Views.{package_view};
+ghost use Rattle.lockfile.specs.inner.Views.{package_view};
 ghost use Rattle.manifest.specs.Manifests.{ManifestView};
 ghost use Rattle.catalogue.specs.Problems.{problem_in};
 ghost use Rattle.catalogue.specs.Stores.{CatalogueView};
-ghost use Rattle.selection.specs.Graphs.{is_known};
+ghost use Rattle.selection.specs.inner.Graphs.{is_known};
 
 use catalogue::{Catalogue, Checksum};
 use classes::same_version;

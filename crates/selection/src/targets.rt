@@ -5,9 +5,9 @@ ghost use Rattle.std.specs.List.{All, AllPairs, AllWithin};
 ghost use Rattle.model.specs.Content.{last_serving, serves, serves_if};
 ghost use Rattle.model.specs.WellFormed.{IsContent};
 ghost use Rattle.features.specs.Views.{dependency_view, dependency_views};
-ghost use Rattle.lockfile.specs.Views.{package_view, package_views};
-ghost use Rattle.selection.specs.Graphs.{targets_in};
-ghost use Rattle.selection.specs.Names.{is_newer, is_past, name_cmp, past_by};
+ghost use Rattle.lockfile.specs.inner.Views.{package_view, package_views};
+ghost use Rattle.selection.specs.inner.Graphs.{targets_in};
+ghost use Rattle.selection.specs.inner.Names.{is_newer, is_past, name_cmp, past_by};
 
 use catalogue::is_beyond;
 use classes::is_matched;

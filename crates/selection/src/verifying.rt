@@ -6,7 +6,7 @@ ghost use Rattle.model.specs.Content.{Problem};
 ghost use Rattle.model.specs.Selection.{IsValidSelection};
 ghost use Rattle.model.specs.WellFormed.{IsContent};
 ghost use Rattle.catalogue.specs.Problems.{problem_in};
-ghost use Rattle.selection.specs.Places.{content_in, AreFindings};
+ghost use Rattle.selection.specs.inner.Places.{content_in, AreFindings};
 ghost use Rattle.selection.specs.Verdicts.{IsFaultOf, IsVerdictOn};
 
 use crate::checked::{checked_at, lowest};

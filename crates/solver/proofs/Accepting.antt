@@ -1,5 +1,6 @@
 -- A row, decoded, is an accepted derivation.
-use Rattle.std.proofs.Common.{◌≡◌, ℕ, zero, suc, ◌-◌, ◌<◌, List, [], ◌∷◌, ◌++◌, length, take, append_assoc, cond, Option}
+use Rattle.std.proofs.Common.{◌≡◌, ℕ, zero, suc, ◌-◌, ◌<◌, List, [], ◌∷◌, ◌++◌, length, take, append_assoc, cond}
+use Rattle.std.proofs.Common.{Option}
 use Rattle.std.proofs.Common.{Some, None, slice_get, refl, sym, ap, ◌∙◌, subst, arith, true, true≢false}
 use Rattle.std.specs.Option.{is_some}
 use Rattle.std.proofs.lemmas.Option.{none-some, same_Some}
@@ -7,7 +8,7 @@ use Rattle.version_sets.specs.Sets.{Members}
 use Rattle.terms.specs.Terms.{TermView}
 use Rattle.incompatibilities.specs.Incompatibilities.{states_at as numbered_at}
 use Rattle.incompatibilities.specs.Stores.{EntryView, touches}
-use Rattle.solver.specs.Flats.{AreFlat, FlatView, IsUnrolled, SourceFits, flat}
+use Rattle.solver.specs.inner.Flats.{AreFlat, FlatView, IsUnrolled, SourceFits, flat}
 use Rattle.solver.specs.declared.flat.Source.{Source}
 use Rattle.solver.specs.declared.flat.Source.TheVariants.{Axiom, Combined}
 use Rattle.model.specs.Content.{Problem}
@@ -20,8 +21,8 @@ use Rattle.model.specs.Derivation as model
 use Rattle.model.proofs.Same.{vertex-refl}
 use Rattle.model.proofs.Accepted.{instance_apart}
 use Rattle.numbering.specs.Numberings.{Numbering, IsNumbering}
-use Rattle.solver.specs.Decoding.{terms_of, IsOver}
-use Rattle.solver.specs.Steps.{AreGiven, IsGiven, IsBy, IsStepOf, AreStepsOf}
+use Rattle.solver.specs.inner.Decoding.{terms_of, IsOver}
+use Rattle.solver.specs.inner.Steps.{AreGiven, IsGiven, IsBy, IsStepOf, AreStepsOf}
 use Rattle.vertices.specs.Kinds.{kind_at}
 use Rattle.solver.proofs.Growth.{has_vertex}
 use Rattle.solver.proofs.Within.{instance_within}

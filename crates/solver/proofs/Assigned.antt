@@ -12,17 +12,17 @@ use Rattle.propagation.specs.Trails.{StepView, TrailView, set_of, space_of, step
 use Rattle.model.specs.Axioms.{owner_holds}
 use Rattle.model.specs.Content.{Content, Package, Problem}
 use Rattle.model.specs.Facts.{here}
-use Rattle.model.specs.Search.{IsPresent, IsUnbroken, LeadsTo}
+use Rattle.model.specs.inner.Search.{IsPresent, IsUnbroken, LeadsTo}
 use Rattle.model.specs.Selection.{class_of}
 use Rattle.model.specs.Stands.{StandsFor, name_of}
 use Rattle.model.specs.Vertices.{Owner, the_root, version_of, Vertex, State, absent, present, root, pkg, version}
 use Rattle.model.specs.WellFormed.{IsCatalogue}
 use Rattle.model.proofs.Cut.{one_place, package_at, package_here}
 use Rattle.model.proofs.Reached.{reached_says, root_present}
-use Rattle.numbering.specs.Assignments.{state_at, state_if, state_of}
+use Rattle.numbering.specs.inner.Assignments.{state_at, state_if, state_of}
 use Rattle.numbering.specs.Numberings.{Numbering, number_in}
 use Rattle.numbering.proofs.Places.{number_at}
-use Rattle.guiding.specs.Guides.{final_of, first_in}
+use Rattle.guiding.specs.inner.Guides.{final_of, first_in}
 use Rattle.guiding.proofs.FirstTerms.{space_starts}
 
 -- the first place of a number

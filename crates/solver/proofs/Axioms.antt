@@ -1,6 +1,6 @@
 -- How many entries are axioms, one entry more.
 use Rattle.std.proofs.Common.{◌≡◌, ℕ, zero, suc, ◌+◌, ◌<◌, ◌≤◌, List, [], ◌∷◌, length, take, ap, ◌∙◌, arith}
-use Rattle.incompatibilities.specs.Counts.{axioms, given_in}
+use Rattle.incompatibilities.specs.inner.Counts.{axioms, given_in}
 use Rattle.incompatibilities.specs.Stores.{EntryView, entry}
 use Rattle.incompatibilities.specs.declared.origin.Origin.{Origin}
 use Rattle.incompatibilities.specs.declared.origin.Origin.TheVariants.{Axiom, Learned}

@@ -10,8 +10,8 @@ use Rattle.model.specs.Selection.{HasTarget, IsRootAt}
 use Rattle.model.specs.WellFormed.{IsCatalogue}
 use Rattle.model.specs.Vertices.{Owner, the_root, version_of, Vertex, State, owner_brings}
 use Rattle.model.specs.Stands.{StandsFor, name_of}
-use Rattle.model.specs.Assignment.{IsOwnerAt}
-use Rattle.model.specs.Search.{IsUnbroken, IsReachedFact, LeadsTo}
+use Rattle.model.specs.inner.Assignment.{IsOwnerAt}
+use Rattle.model.specs.inner.Search.{IsUnbroken, IsReachedFact, LeadsTo}
 use Rattle.model.proofs.Cut.{Next, Place, back, brings_back, next, one_place, package_at, package_here, root_back}
 use Rattle.model.proofs.Cut.{stands_valid}
 use Rattle.model.proofs.Owners.{owner_is}

@@ -20,7 +20,7 @@ use Rattle.model.specs.Derivation.{SameAt, union_at, meet_at, combined_at, IsCom
 use Rattle.model.specs.Derivation as model
 use Rattle.numbering.specs.Numberings.{Numbering, IsNumbering}
 use Rattle.numbering.proofs.Distinct.{states_once}
-use Rattle.solver.specs.Decoding.{states_in, terms_of, sizes, IsOver}
+use Rattle.solver.specs.inner.Decoding.{states_in, terms_of, sizes, IsOver}
 use Rattle.solver.proofs.Sets.{joined, met, full_states, full_meet}
 use Rattle.solver.proofs.Decoded.{same_number, said, unsaid, long_at}
 use Rattle.solver.proofs.Unique.{by_number, same_self}

@@ -2,13 +2,13 @@
 use Rattle.std.proofs.Common.{◌≡◌, ℕ, suc, ◌+◌, ◌≤◌, List, [], ◌∷◌, if◌then◌else◌, length, refl, arith}
 use Rattle.incompatibilities.specs.Stores.{EntryView}
 use Rattle.propagation.specs.Promises.{most}
-use Rattle.solver.specs.Flats.{FlatView, IsUnrolled, combined_by, combined_in, given_by, given_of}
+use Rattle.solver.specs.inner.Flats.{FlatView, IsUnrolled, combined_by, combined_in, given_by, given_of}
 use Rattle.solver.specs.declared.flat.Source.{Source}
 use Rattle.solver.specs.declared.flat.Source.TheVariants.{Axiom, Combined}
 use Rattle.model.specs.Content.{Problem}
 use Rattle.model.specs.Derivation.{Step, given, combine}
 use Rattle.numbering.specs.Numberings.{Numbering}
-use Rattle.solver.specs.Steps.{AreStepsOf, IsBy}
+use Rattle.solver.specs.inner.Steps.{AreStepsOf, IsBy}
 use Rattle.solver.specs.Refusing.{HasNoMore, axioms_of, combinations_of, is_given_step}
 
 module _ (q : Problem) (vs : Numbering) where

@@ -16,7 +16,7 @@ use Rattle.model.specs.Derivation as model
 use Rattle.model.proofs.Same.{vertex-same, vertex-refl, vertex-other}
 use Rattle.numbering.specs.Numberings.{Numbering}
 use Rattle.numbering.proofs.Saying.{one_place}
-use Rattle.solver.specs.Decoding.{states_in, with_term, terms_of, size_of, IsOver}
+use Rattle.solver.specs.inner.Decoding.{states_in, with_term, terms_of, size_of, IsOver}
 
 module _ (q : Problem) (vs : Numbering) (once : AllPairs (λ v w. v ≢ w) vs) where
   -- two numbers are one just where their vertices are

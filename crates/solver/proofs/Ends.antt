@@ -7,7 +7,7 @@ use Rattle.propagation.proofs.SetLemmas.{has_some}
 use Rattle.model.specs.Vertices.{Vertex}
 use Rattle.numbering.specs.Numberings.{Numbering, number_in}
 use Rattle.numbering.proofs.Places.{number_at}
-use Rattle.guiding.specs.Guides.{first_in}
+use Rattle.guiding.specs.inner.Guides.{first_in}
 
 pub first_at : (s : Members) (n : ℕ) → has s n ≡ true → ((i : ℕ) → i < n → has s i ≡ false) → first_in s ≡ n
 first_at [] n h none = absurd (true≢false (sym h))

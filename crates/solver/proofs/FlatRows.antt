@@ -7,7 +7,7 @@ use Rattle.std.proofs.lemmas.Bool.{cases_lt}
 use Rattle.std.proofs.lemmas.List.{append-nil, get_or_append_left, get_or-map, length-append, length-map}
 use Rattle.version_sets.specs.Sets.{Members, has}
 use Rattle.terms.specs.Terms.{TermView}
-use Rattle.incompatibilities.specs.Counts.{axioms, combinations, given_in, links_in}
+use Rattle.incompatibilities.specs.inner.Counts.{axioms, combinations, given_in, links_in}
 use Rattle.incompatibilities.specs.Chains.{ChainView}
 use Rattle.incompatibilities.specs.Incompatibilities.{Fit, IsCombination, LiesIn, states_at}
 use Rattle.incompatibilities.specs.Stores.{ComesOut, EntryView, OriginFits, entry, terms_of, touches}
@@ -17,9 +17,10 @@ use Rattle.incompatibilities.proofs.Broken.{lies_fit}
 use Rattle.solver.specs.declared.flat.Flat.{Flat}
 use Rattle.solver.specs.declared.flat.Source.{Source}
 use Rattle.solver.specs.declared.flat.Source.TheVariants.{Axiom, Combined}
-use Rattle.solver.specs.Flats.{AreAt, AreFlat, ChainAt, FlatView, IsLinkPut, IsPut, IsUnrolled, LieSomewhere}
-use Rattle.solver.specs.Flats.{LinksAt, PutIf, SourceFits, StandsAt, combined_in, flat, flat_view, flats_view, given_of}
-use Rattle.solver.specs.Marks.{AreIn, IsMarking, PartsIn}
+use Rattle.solver.specs.inner.Flats.{AreAt, AreFlat, ChainAt, FlatView, IsLinkPut, IsPut, IsUnrolled, LieSomewhere}
+use Rattle.solver.specs.inner.Flats.{LinksAt, PutIf, SourceFits, StandsAt, combined_in, flat, flat_view, flats_view}
+use Rattle.solver.specs.inner.Flats.{given_of}
+use Rattle.solver.specs.inner.Marks.{AreIn, IsMarking, PartsIn}
 
 abbrev empty : FlatView
 empty = record { terms = []; source = Axiom 0 }

@@ -9,7 +9,7 @@ use Rattle.incompatibilities.specs.Incompatibilities.{states_at}
 use Rattle.model.specs.Content.{Problem}
 use Rattle.model.specs.Vertices.{Vertex}
 use Rattle.numbering.specs.Numberings.{Numbering}
-use Rattle.solver.specs.Decoding.{states_in, IsOver}
+use Rattle.solver.specs.inner.Decoding.{states_in, IsOver}
 use Rattle.solver.proofs.Decoded.{none_at}
 
 pub has_vertex : (q : Problem) (vs : Numbering) (made : List TermView) (n : ℕ) (m : Members) → IsOver q vs made

@@ -16,16 +16,16 @@ use Rattle.model.specs.Candidates.{Record}
 use Rattle.model.specs.Selection.{Class}
 use Rattle.model.specs.Vertices.{Owner, version_of, Vertex, pkg, dep, State, absent, present, version, in_class}
 use Rattle.model.specs.Vertices.{has_state, in_that_class, same_state, space}
-use Rattle.model.specs.Search.{IsUnbroken, LeadsTo}
+use Rattle.model.specs.inner.Search.{IsUnbroken, LeadsTo}
 use Rattle.model.proofs.Lists.{all_first, all_rest}
 use Rattle.model.proofs.Places.{some_at, get_push_cases}
 use Rattle.catalogue.proofs.Lookups.{candidates_are}
 use Rattle.catalogue.specs.Stores.{CatalogueView, candidates_at, rows_by_name}
-use Rattle.facts.specs.Nodes.{AreLeads, IsLead}
-use Rattle.selection.specs.Contents.{owner_if, owners_of, met_owner}
+use Rattle.facts.specs.inner.Nodes.{AreLeads, IsLead}
+use Rattle.selection.specs.inner.Contents.{owner_if, owners_of, met_owner}
 use Rattle.selection.specs.declared.met.MetVersion.{MetVersion}
 use Rattle.selection.proofs.Rows.{versions_are}
-use Rattle.solver.specs.Leads.{AreLed, ArePut, AreThere, IsLed, IsPut, class_if, version_if}
+use Rattle.solver.specs.inner.Leads.{AreLed, ArePut, AreThere, IsLed, IsPut, class_if, version_if}
 
 -- ---- states
 

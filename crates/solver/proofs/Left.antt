@@ -3,19 +3,19 @@ use Rattle.std.proofs.Common.{◌≡◌, ◌≤◌, ℕ, List, length, Bool, tru
 use Rattle.std.proofs.Common.{ap, ◌∙◌, subst, arith}
 use Rattle.std.specs.Prelude.{unwrap_or}
 use Rattle.propagation.specs.Trails.{TrailView, set_of}
-use Rattle.model.specs.Assignment.{Assigns}
+use Rattle.model.specs.inner.Assignment.{Assigns}
 use Rattle.model.specs.Content.{Content, Problem}
 use Rattle.model.specs.Selection.{IsValidSelection}
 use Rattle.model.specs.Vertices.{State, absent}
-use Rattle.numbering.specs.Assignments.{state_at, state_if, state_of}
+use Rattle.numbering.specs.inner.Assignments.{state_at, state_if, state_of}
 use Rattle.numbering.specs.Numberings.{Numbering, number_in}
 use Rattle.numbering.proofs.Places.{number_at}
 use Rattle.numbering.proofs.Sound.{has_assignment}
-use Rattle.guiding.specs.Guides.{final_of}
+use Rattle.guiding.specs.inner.Guides.{final_of}
 use Rattle.guiding.proofs.FirstTerms.{space_starts}
 use Rattle.facts.specs.Followed.{AgreesWith}
 use Rattle.version_sets.specs.Sets.{has}
-use Rattle.solver.specs.Leads.{IsLeft}
+use Rattle.solver.specs.inner.Leads.{IsLeft}
 use Rattle.solver.proofs.Ends.{first_alone, first_zero, number_within}
 
 pub agrees_with : (q : Problem) (vs : Numbering) (content : Content) (t : TrailView) → length vs ≤ length t.sets

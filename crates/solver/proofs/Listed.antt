@@ -1,5 +1,6 @@
 -- What holds of each value of a list with empty places holds when one more is put in; and what stays listed.
-use Rattle.std.proofs.Common.{◌≡◌, ℕ, zero, suc, ◌+◌, ◌<◌, List, [], ◌∷◌, length, take, Option, None, Some, slice_index_or}
+use Rattle.std.proofs.Common.{◌≡◌, ℕ, zero, suc, ◌+◌, ◌<◌, List, [], ◌∷◌, length, take, Option, None, Some}
+use Rattle.std.proofs.Common.{slice_index_or}
 use Rattle.std.proofs.Common.{get_or, is_some, slice_set, true, refl, subst, All, arith}
 use Rattle.std.proofs.lemmas.List.Elements.{All-more, All-weaker}
 use Rattle.std.proofs.lemmas.Option.{same_Some}

@@ -9,8 +9,8 @@ use Rattle.incompatibilities.specs.Stores.{ComesOut, EntryView, OriginFits, entr
 use Rattle.incompatibilities.specs.declared.chain.Link.{Link}
 use Rattle.incompatibilities.specs.declared.origin.Origin.{Origin}
 use Rattle.incompatibilities.specs.declared.origin.Origin.TheVariants.{Axiom, Learned}
-use Rattle.solver.specs.Marks.{AreBelow, AreIn, IsClosedAt, IsMarking, PartsBelow, PartsIn, visited, with_links}
-use Rattle.solver.specs.Marks.{with_parts}
+use Rattle.solver.specs.inner.Marks.{AreBelow, AreIn, IsClosedAt, IsMarking, PartsBelow, PartsIn, visited, with_links}
+use Rattle.solver.specs.inner.Marks.{with_parts}
 
 -- ---- one mark more
 

@@ -16,14 +16,14 @@ use Rattle.model.proofs.Same.{state-same}
 use Rattle.model.proofs.Places.{got_in}
 use Rattle.model.proofs.Members.{each_at}
 use Rattle.vertices.specs.Texts.{IsReadState, IsReadVertex}
-use Rattle.vertices.specs.Valid.{HasValidParts}
+use Rattle.vertices.specs.inner.Valid.{HasValidParts}
 use Rattle.vertices.proofs.InProblem.{in-problem}
 use Rattle.vertices.proofs.InSpace.{in-space}
 use Rattle.vertices.proofs.ReadBack.{state-is-read, vertex-is-read}
-use Rattle.derivations.specs.Building.{AreNewTerms, IsNewTerm}
+use Rattle.derivations.specs.inner.Building.{AreNewTerms, IsNewTerm}
 use Rattle.numbering.specs.Numberings.{IsNumbering, Numbering}
 use Rattle.numbering.proofs.Distinct.{states_once}
-use Rattle.solver.specs.Decoding.{states_in, terms_of, with_term}
+use Rattle.solver.specs.inner.Decoding.{states_in, terms_of, with_term}
 use Rattle.solver.proofs.Whole.{terms_apart}
 
 -- ---- states that are chosen

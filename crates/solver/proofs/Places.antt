@@ -4,14 +4,14 @@ use Rattle.std.proofs.Common.{refl, sym, ap, ◌∙◌, subst, arith}
 use Rattle.std.proofs.Math.Seq.{take-suc}
 use Rattle.std.proofs.lemmas.List.{take_all}
 use Rattle.incompatibilities.specs.Stores.{EntryView}
-use Rattle.solver.specs.Flats.{AreFlat, FlatView, SourceFits, flat}
+use Rattle.solver.specs.inner.Flats.{AreFlat, FlatView, SourceFits, flat}
 use Rattle.solver.specs.declared.flat.Source.{Source}
 use Rattle.solver.specs.declared.flat.Source.TheVariants.{Axiom, Combined}
 use Rattle.model.specs.Content.{Problem}
 use Rattle.model.specs.WellFormed.{IsCatalogue}
 use Rattle.model.specs.Derivation.{Step}
 use Rattle.numbering.specs.Numberings.{IsNumbering, Numbering}
-use Rattle.solver.specs.Steps.{AreGiven, AreStepsOf, IsStepOf}
+use Rattle.solver.specs.inner.Steps.{AreGiven, AreStepsOf, IsStepOf}
 use Rattle.solver.proofs.Accepting.{over, vertex_of}
 use Rattle.solver.specs.Refusing.{AreThere, IsNext}
 

@@ -6,10 +6,10 @@ use Rattle.std.proofs.lemmas.Option.{same_Some, none-some}
 use Rattle.model.specs.Summary.{Dependency}
 use Rattle.model.proofs.Places.{get_push_cases}
 use Rattle.catalogue.specs.Stores.{CatalogueView}
-use Rattle.selection.specs.Contents.{Grows, IsCandidate, candidate_owner}
+use Rattle.selection.specs.inner.Contents.{Grows, IsCandidate, candidate_owner}
 use Rattle.selection.specs.declared.met.MetVersion.{MetVersion}
 use Rattle.selection.proofs.MetVersions.{grows_on, owner_on, unchanged}
-use Rattle.solver.specs.Leads.{ArePut, AreThere, IsPut}
+use Rattle.solver.specs.inner.Leads.{ArePut, AreThere, IsPut}
 
 module _ (index : CatalogueView) where
   -- a candidate that is there can be put

@@ -9,8 +9,8 @@ use Rattle.model.specs.Axioms.{AreApart, Term}
 use Rattle.model.specs.Derivation.{SameAt, SameTerms, states_at}
 use Rattle.model.proofs.Same.{vertex-same, vertex-refl}
 use Rattle.vertices.specs.Orders.{state_cmp}
-use Rattle.derivations.specs.Building.{ordered_term, ordered_terms}
-use Rattle.derivations.specs.Derivations.{term_cmp}
+use Rattle.derivations.specs.inner.Building.{ordered_term, ordered_terms}
+use Rattle.derivations.specs.inner.Derivations.{term_cmp}
 use Rattle.model.specs.Sorting.{in_order, put_in}
 use Rattle.model.proofs.Sorting.{each-in_order}
 

@@ -17,7 +17,7 @@ use Rattle.model.proofs.Combined.{both_left, both_right}
 use Rattle.model.proofs.Tests.{one_test}
 use Rattle.model.proofs.Places.{place_of}
 use Rattle.numbering.proofs.Places.{has_map}
-use Rattle.solver.specs.Decoding.{states_in}
+use Rattle.solver.specs.inner.Decoding.{states_in}
 
 map_there : {X Y : Type 0} (f g : X → Y) (xs : List X) → ((x : X) → Contains xs x → f x ≡ g x) → map f xs ≡ map g xs
 map_there f g [] h = refl

@@ -16,8 +16,8 @@ use Rattle.model.specs.Content.{Problem}
 use Rattle.model.specs.Vertices.{Vertex}
 use Rattle.model.specs.Axioms.{Term}
 use Rattle.numbering.specs.Numberings.{Numbering}
-use Rattle.solver.specs.Decoding.{IsOver, sizes, states_in, terms_of, with_term}
-use Rattle.derivations.specs.Named.{named_view, named_views}
+use Rattle.solver.specs.inner.Decoding.{IsOver, sizes, states_in, terms_of, with_term}
+use Rattle.derivations.specs.inner.Named.{named_view, named_views}
 use Rattle.derivations.specs.declared.named.NamedTerm.{NamedTerm}
 use Rattle.solver.specs.Refusing.{AreSized, spoken_view, spoken_views}
 use Rattle.solver.specs.declared.speaking.Spoken.{Spoken}

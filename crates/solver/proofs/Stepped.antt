@@ -3,14 +3,14 @@ use Rattle.std.proofs.Common.{◌≡◌, ◌≤◌, ℕ, List, length, Option, S
 use Rattle.incompatibilities.specs.Stores.{EntryView}
 use Rattle.propagation.specs.Trails.{TrailView}
 use Rattle.model.specs.Content.{Content, Problem}
-use Rattle.model.specs.Search.{IsUnbroken}
+use Rattle.model.specs.inner.Search.{IsUnbroken}
 use Rattle.model.specs.Selection.{IsValidSelection}
 use Rattle.model.specs.WellFormed.{IsCatalogue}
-use Rattle.numbering.specs.Assignments.{IsOf, state_of}
-use Rattle.guiding.specs.Following.{IsSelection}
+use Rattle.numbering.specs.inner.Assignments.{IsOf, state_of}
+use Rattle.guiding.specs.inner.Following.{IsSelection}
 use Rattle.guiding.specs.declared.turns.Answer.{Answer}
 use Rattle.guiding.specs.declared.turns.Answer.TheVariants as answers
-use Rattle.guiding.specs.Guides.{CanFollow, EncodedView, HasFound, HasSearched, final_of}
+use Rattle.guiding.specs.inner.Guides.{CanFollow, EncodedView, HasFound, HasSearched, final_of}
 use Rattle.facts.specs.Built.{HasBareRoot}
 use Rattle.facts.proofs.Followed.{follows}
 use Rattle.solver.proofs.Assigned.{packages_assigned}

@@ -1,6 +1,6 @@
 -- A step with an entry's terms in the written order is one of the entry.
 use Rattle.std.proofs.Common.{◌≡◌, ℕ, List, Some, slice_get, refl, sym, subst}
-use Rattle.solver.specs.Flats.{FlatView}
+use Rattle.solver.specs.inner.Flats.{FlatView}
 use Rattle.solver.specs.declared.flat.Source.{Source}
 use Rattle.solver.specs.declared.flat.Source.TheVariants.{Axiom, Combined}
 use Rattle.model.specs.Content.{Problem}
@@ -8,11 +8,11 @@ use Rattle.model.specs.WellFormed.{IsCatalogue}
 use Rattle.model.specs.Vertices.{Vertex}
 use Rattle.model.specs.Axioms.{AreApart, Kind, Term}
 use Rattle.model.specs.Derivation.{SameTerms, Step, combine, given}
-use Rattle.vertices.specs.Valid.{HasValidParts}
-use Rattle.derivations.specs.Building.{AreNewTerms, ordered_terms}
+use Rattle.vertices.specs.inner.Valid.{HasValidParts}
+use Rattle.derivations.specs.inner.Building.{AreNewTerms, ordered_terms}
 use Rattle.numbering.specs.Numberings.{IsNumbering, Numbering}
-use Rattle.solver.specs.Decoding.{IsOver, terms_of}
-use Rattle.solver.specs.Steps.{IsBy, IsStepOf}
+use Rattle.solver.specs.inner.Decoding.{IsOver, terms_of}
+use Rattle.solver.specs.inner.Steps.{IsBy, IsStepOf}
 use Rattle.vertices.specs.Kinds.{kind_at}
 use Rattle.solver.proofs.Whole.{terms_apart}
 use Rattle.solver.specs.Refusing.{IsStepWith}

@@ -22,7 +22,7 @@ use Rattle.numbering.specs.Numberings.{Numbering, IsNumbering, number_in, member
 use Rattle.numbering.proofs.Places.{number_at, number_of}
 use Rattle.numbering.proofs.Distinct.{states_once}
 use Rattle.numbering.proofs.Sound.{spoken}
-use Rattle.solver.specs.Decoding.{states_in, terms_of, size_of, sizes, AreWithin, IsOver}
+use Rattle.solver.specs.inner.Decoding.{states_in, terms_of, size_of, sizes, AreWithin, IsOver}
 use Rattle.solver.proofs.Sets.{tested, full_tests}
 use Rattle.solver.proofs.Decoded.{said, unsaid}
 

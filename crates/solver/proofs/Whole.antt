@@ -9,7 +9,7 @@ use Rattle.model.specs.Content.{Problem}
 use Rattle.model.specs.Vertices.{Vertex, same_vertex}
 use Rattle.model.specs.Axioms.{AreApart}
 use Rattle.numbering.specs.Numberings.{Numbering, IsNumbering}
-use Rattle.solver.specs.Decoding.{with_term, terms_of}
+use Rattle.solver.specs.inner.Decoding.{with_term, terms_of}
 use Rattle.solver.proofs.Decoded.{same_number}
 
 module _ (q : Problem) (vs : Numbering) (ok : IsNumbering q vs) where

@@ -14,7 +14,7 @@ use Rattle.model.specs.Axioms.IsInstance.{feature_on, dependency_on, feature_ask
 use Rattle.model.proofs.Same.{class-refl}
 use Rattle.model.proofs.Lists.{in_none, in_cons, in_rest, in_filter, to_filter, in_map, to_map}
 use Rattle.model.proofs.Spaces.{state_in, state_from, absent_in_space}
-use Rattle.solver.specs.Decoding.{AreWithin}
+use Rattle.solver.specs.inner.Decoding.{AreWithin}
 
 module _ (q : Problem) where
   abbrev In : Vertex → List State → Type 0

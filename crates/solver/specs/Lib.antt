@@ -1,8 +1,4 @@
 pub mod Solving
-pub mod Flats
-pub mod Marks
-pub mod Decoding
-pub mod Steps
 pub mod Refusing
-pub use Rattle.facts.specs.Nodes
-pub mod Leads
+pub mod inner
+pub use Rattle.facts.specs.inner.Nodes

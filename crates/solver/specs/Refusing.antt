@@ -3,9 +3,9 @@ use Rattle.std.specs.Prelude.{◌≡◌, ℕ, suc, ◌<◌, ◌≤◌, Bool, tru
 use Rattle.std.specs.Prelude.{Some, is_some, slice_get, slice_index_or}
 use Rattle.std.specs.List.{AllByRecursion}
 use Rattle.terms.specs.Terms.{TermView}
-use Rattle.incompatibilities.specs.Counts.{axioms, combinations}
+use Rattle.incompatibilities.specs.inner.Counts.{axioms, combinations}
 use Rattle.incompatibilities.specs.Stores.{EntryView}
-use Rattle.solver.specs.Flats.{FlatView}
+use Rattle.solver.specs.inner.Flats.{FlatView}
 use Rattle.solver.specs.declared.flat.Source.{Source}
 use Rattle.solver.specs.declared.flat.Source.TheVariants.{Axiom, Combined}
 use Rattle.model.specs.Content.{Problem}
@@ -14,11 +14,11 @@ use Rattle.model.specs.Axioms.{Term, at}
 use Rattle.model.specs.Derivation.{Step, given, combine}
 use Rattle.model.specs.Derivation as model
 use Rattle.propagation.specs.Promises.{most}
-use Rattle.vertices.specs.RefViews.{state_ref_views}
+use Rattle.vertices.specs.inner.RefViews.{state_ref_views}
 use Rattle.vertices.specs.Texts.{IsReadVertex}
 use Rattle.numbering.specs.Numberings.{Numbering}
-use Rattle.solver.specs.Decoding.{IsOver, sizes}
-use Rattle.solver.specs.Steps.{IsBy}
+use Rattle.solver.specs.inner.Decoding.{IsOver, sizes}
+use Rattle.solver.specs.inner.Steps.{IsBy}
 use Rattle.solver.specs.declared.spaces.Space.{Space}
 use Rattle.solver.specs.declared.spaces.Spaces.{Spaces}
 use Rattle.solver.specs.declared.speaking.Spoken.{Spoken}

@@ -1,7 +1,7 @@
 //! How many axioms a search needed.
 
 ghost use Rattle.std.specs.Prelude.{◌≡◌};
-ghost use Rattle.incompatibilities.specs.Counts.{axioms, given_in};
+ghost use Rattle.incompatibilities.specs.inner.Counts.{axioms, given_in};
 ghost use Rattle.incompatibilities.specs.Stores.{entries_view};
 
 use incompatibilities::{Id, Origin, Store};

@@ -6,8 +6,8 @@ ghost use Rattle.std.specs.Prelude.{◌<◌, ℕ, List, length};
 ghost use Rattle.incompatibilities.specs.Stores.{EntryView, IsAxiom, entry};
 ghost use Rattle.model.specs.Content.{Problem};
 ghost use Rattle.numbering.specs.Numberings.{Numbering};
-ghost use Rattle.solver.specs.Steps.{AreGiven};
-ghost use Rattle.guiding.specs.Guides.{IsOfInstance};
+ghost use Rattle.solver.specs.inner.Steps.{AreGiven};
+ghost use Rattle.guiding.specs.inner.Guides.{IsOfInstance};
 
 /// Axioms that are instances of their kinds are so by the numbers of the kinds.
 pub fn instances_have_their_kinds()

@@ -5,11 +5,11 @@ ghost use Rattle.semver.specs.Identifiers.{parts_of};
 ghost use Rattle.classes.specs.Classes.{class_view};
 ghost use Rattle.propagation.specs.Trails.{trail_view};
 ghost use Rattle.features.specs.Views.{dependency_view, dependency_views};
-ghost use Rattle.vertices.specs.RefViews.{owner_ref_view};
+ghost use Rattle.vertices.specs.inner.RefViews.{owner_ref_view};
 ghost use Rattle.model.specs.Vertices.{Owner, dep, pkg};
-ghost use Rattle.numbering.specs.KnownProblem.{problem};
-ghost use Rattle.selection.specs.Contents.{AreMetVersions, owners_of};
-ghost use Rattle.solver.specs.Leads.{AreLed, HasEnded, IsLed, class_if, ends, version_if};
+ghost use Rattle.numbering.specs.inner.KnownProblem.{problem};
+ghost use Rattle.selection.specs.inner.Contents.{AreMetVersions, owners_of};
+ghost use Rattle.solver.specs.inner.Leads.{AreLed, HasEnded, IsLed, class_if, ends, version_if};
 
 use crate::states::{class_if, state_of, version_if};
 use catalogue::{Catalogue, place_of};

@@ -3,7 +3,7 @@
 //! So a derivation numbers them in that order, and finds and orders terms by numbers. Nothing rests on the order.
 
 ghost use Rattle.std.specs.Prelude.{◌≡◌};
-ghost use Rattle.numbering.specs.KnownProblem.{problem};
+ghost use Rattle.numbering.specs.inner.KnownProblem.{problem};
 ghost use Rattle.solver.specs.Refusing.{AreListed, AreReadVertices, AreSpelt};
 
 use crate::flat::Flat;

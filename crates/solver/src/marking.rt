@@ -3,7 +3,7 @@
 ghost use Rattle.std.specs.Prelude.{◌≡◌, ◌<◌, true, IfOk, length};
 ghost use Rattle.version_sets.specs.Sets.{has};
 ghost use Rattle.incompatibilities.specs.Stores.{OriginFits, entries_view, entry};
-ghost use Rattle.solver.specs.Marks.{AreBelow, IsMarking, PartsBelow, visited, with_links, with_parts};
+ghost use Rattle.solver.specs.inner.Marks.{AreBelow, IsMarking, PartsBelow, visited, with_links, with_parts};
 
 use incompatibilities::{Id, Link, Origin, Store};
 use std::alloc::{AllocError, Global};

@@ -2,12 +2,12 @@
 
 ghost use Rattle.std.specs.Prelude.{◌≡◌, IfOk};
 ghost use Rattle.propagation.specs.Trails.{trail_view};
-ghost use Rattle.facts.specs.Graphs.{node_views};
-ghost use Rattle.model.specs.Search.{LeadsTo};
-ghost use Rattle.facts.specs.Nodes.{AreMet};
-ghost use Rattle.numbering.specs.KnownProblem.{problem};
-ghost use Rattle.selection.specs.Contents.{AreMetVersions, owners_of};
-ghost use Rattle.solver.specs.Leads.{HasEnded, ends};
+ghost use Rattle.facts.specs.inner.Graphs.{node_views};
+ghost use Rattle.model.specs.inner.Search.{LeadsTo};
+ghost use Rattle.facts.specs.inner.Nodes.{AreMet};
+ghost use Rattle.numbering.specs.inner.KnownProblem.{problem};
+ghost use Rattle.selection.specs.inner.Contents.{AreMetVersions, owners_of};
+ghost use Rattle.solver.specs.inner.Leads.{HasEnded, ends};
 
 use crate::leading::led_at;
 use crate::targets::targets_of;

@@ -16,11 +16,11 @@
 ghost use Rattle.std.specs.Prelude.{◌≡◌, ◌<◌, [], IfOk, length};
 ghost use Rattle.incompatibilities.specs.Stores.{entries_view, entry};
 ghost use Rattle.model.specs.Derivation.{IsAccepted};
-ghost use Rattle.vertices.specs.Valid.{HasValidParts};
-ghost use Rattle.numbering.specs.KnownProblem.{problem};
+ghost use Rattle.vertices.specs.inner.Valid.{HasValidParts};
+ghost use Rattle.numbering.specs.inner.KnownProblem.{problem};
 ghost use Rattle.numbering.specs.Numberings.{IsNumbering};
-ghost use Rattle.solver.specs.Flats.{AreFlat, LieSomewhere, flats_view};
-ghost use Rattle.solver.specs.Steps.{AreGiven, AreStepsOf};
+ghost use Rattle.solver.specs.inner.Flats.{AreFlat, LieSomewhere, flats_view};
+ghost use Rattle.solver.specs.inner.Steps.{AreGiven, AreStepsOf};
 ghost use Rattle.solver.specs.Refusing.{HasNoMore};
 
 use crate::flat::Flat;

@@ -13,9 +13,9 @@ ghost use Rattle.model.specs.Content.{Problem};
 ghost use Rattle.model.specs.Derivation.{IsAccepted, Step};
 ghost use Rattle.model.specs.WellFormed.{IsCatalogue};
 ghost use Rattle.incompatibilities.specs.Stores.{EntryView, entry};
-ghost use Rattle.solver.specs.Flats.{FlatView, IsUnrolled};
+ghost use Rattle.solver.specs.inner.Flats.{FlatView, IsUnrolled};
 ghost use Rattle.numbering.specs.Numberings.{IsNumbering, Numbering};
-ghost use Rattle.solver.specs.Steps.{AreGiven, AreStepsOf};
+ghost use Rattle.solver.specs.inner.Steps.{AreGiven, AreStepsOf};
 
 /// Steps that say what a row says, by the same kinds and of the same two at the same places, are an accepted
 /// derivation, if the row ends with an entry without terms.

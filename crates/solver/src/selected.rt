@@ -15,11 +15,11 @@
 ghost use Rattle.std.specs.Prelude.{◌≡◌, ◌≤◌, IfOk, length};
 ghost use Rattle.propagation.specs.Promises.{IsSound};
 ghost use Rattle.propagation.specs.Trails.{trail_view};
-ghost use Rattle.model.specs.Search.{IsUnbroken};
+ghost use Rattle.model.specs.inner.Search.{IsUnbroken};
 ghost use Rattle.model.specs.Selection.{IsValidSelection};
-ghost use Rattle.numbering.specs.Assignments.{state_of};
-ghost use Rattle.numbering.specs.KnownProblem.{problem};
-ghost use Rattle.guiding.specs.Guides.{final_of};
+ghost use Rattle.numbering.specs.inner.Assignments.{state_of};
+ghost use Rattle.numbering.specs.inner.KnownProblem.{problem};
+ghost use Rattle.guiding.specs.inner.Guides.{final_of};
 ghost use Rattle.facts.specs.Built.{HasBareRoot};
 ghost use Rattle.facts.specs.Followed.{IsBrought};
 

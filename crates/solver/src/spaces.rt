@@ -3,9 +3,9 @@
 ghost use Rattle.std.specs.Prelude.{◌≡◌, ◌<◌, ℕ, None, OnOk, Some, length, slice_get, slice_index_or, true};
 ghost use Rattle.std.specs.List.{All};
 ghost use Rattle.model.specs.Content.{Problem};
-ghost use Rattle.vertices.specs.RefViews.{vertex_ref_view};
+ghost use Rattle.vertices.specs.inner.RefViews.{vertex_ref_view};
 ghost use Rattle.vertices.specs.Texts.{IsReadVertex};
-ghost use Rattle.numbering.specs.KnownProblem.{problem};
+ghost use Rattle.numbering.specs.inner.KnownProblem.{problem};
 ghost use Rattle.numbering.specs.Numberings.{Numbering};
 ghost use Rattle.solver.specs.Refusing.{AreKept, AreListed, AreReadVertices, AreSpelt, IsListed, IsNamed, is_listed};
 

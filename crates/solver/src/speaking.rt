@@ -5,10 +5,10 @@ ghost use Rattle.std.specs.Prelude.{◌≡◌, ◌++◌, [], IfOk, OnOk, Some, l
 ghost use Rattle.terms.specs.Terms.{terms_view};
 ghost use Rattle.model.specs.Axioms.{at};
 ghost use Rattle.model.specs.Vertices.{space};
-ghost use Rattle.vertices.specs.RefViews.{vertex_ref_view};
-ghost use Rattle.derivations.specs.Named.{named_views};
-ghost use Rattle.numbering.specs.KnownProblem.{problem};
-ghost use Rattle.solver.specs.Decoding.{sizes, states_in, terms_of, with_term};
+ghost use Rattle.vertices.specs.inner.RefViews.{vertex_ref_view};
+ghost use Rattle.derivations.specs.inner.Named.{named_views};
+ghost use Rattle.numbering.specs.inner.KnownProblem.{problem};
+ghost use Rattle.solver.specs.inner.Decoding.{sizes, states_in, terms_of, with_term};
 ghost use Rattle.solver.specs.Refusing.{AreListed, AreSized, AreSpelt, IsListed, is_listed, spoken_view};
 ghost use Rattle.solver.specs.Refusing.{spoken_views};
 

@@ -4,9 +4,9 @@ ghost use Rattle.std.specs.Prelude.{◌≡◌, ◌≤◌, IfOk, length, option_m
 ghost use Rattle.propagation.specs.Trails.{trail_view};
 ghost use Rattle.semver.specs.Identifiers.{parts_of};
 ghost use Rattle.classes.specs.Classes.{class_view};
-ghost use Rattle.vertices.specs.RefViews.{state_ref_view, vertex_ref_view};
-ghost use Rattle.guiding.specs.Guides.{first_in};
-ghost use Rattle.solver.specs.Leads.{class_if, ends, version_if};
+ghost use Rattle.vertices.specs.inner.RefViews.{state_ref_view, vertex_ref_view};
+ghost use Rattle.guiding.specs.inner.Guides.{first_in};
+ghost use Rattle.solver.specs.inner.Leads.{class_if, ends, version_if};
 
 use classes::Class;
 use numbering::{KnownProblem, Table, state_at};

@@ -1,14 +1,14 @@
 //! One of a row as a step of a derivation.
 
 ghost use Rattle.std.specs.Prelude.{◌≡◌, ◌++◌, ◌∷◌, [], OnOk, length};
-ghost use Rattle.solver.specs.Flats.{flat_view};
+ghost use Rattle.solver.specs.inner.Flats.{flat_view};
 ghost use Rattle.model.specs.Derivation.{Step};
-ghost use Rattle.vertices.specs.Valid.{HasValidParts};
-ghost use Rattle.derivations.specs.Building.{AreNewTerms, ordered_terms};
-ghost use Rattle.derivations.specs.Named.{named_views};
-ghost use Rattle.numbering.specs.KnownProblem.{problem};
+ghost use Rattle.vertices.specs.inner.Valid.{HasValidParts};
+ghost use Rattle.derivations.specs.inner.Building.{AreNewTerms, ordered_terms};
+ghost use Rattle.derivations.specs.inner.Named.{named_views};
+ghost use Rattle.numbering.specs.inner.KnownProblem.{problem};
 ghost use Rattle.numbering.specs.Numberings.{IsNumbering};
-ghost use Rattle.solver.specs.Steps.{IsStepOf};
+ghost use Rattle.solver.specs.inner.Steps.{IsStepOf};
 ghost use Rattle.solver.specs.Refusing.{AreListed, AreReadVertices, AreSpelt, AreThere, IsNamed, IsNext, IsStepWith};
 
 use crate::flat::{Flat, Source};

@@ -2,8 +2,8 @@
 
 ghost use Rattle.std.specs.Prelude.{◌≡◌, ℕ, IfOk, OnOk, Some, length};
 ghost use Rattle.features.specs.Views.{dependency_views};
-ghost use Rattle.selection.specs.Contents.{Grows, IsCandidate};
-ghost use Rattle.solver.specs.Leads.{ArePut, AreThere, IsPut};
+ghost use Rattle.selection.specs.inner.Contents.{Grows, IsCandidate};
+ghost use Rattle.solver.specs.inner.Leads.{ArePut, AreThere, IsPut};
 
 use catalogue::Catalogue;
 use features::{Dependency, PackageName};

@@ -13,9 +13,9 @@ ghost use Rattle.incompatibilities.specs.Stores.{OriginFits, entries_view, entry
 ghost use Rattle.incompatibilities.specs.declared.origin.Origin.TheVariants.{Learned};
 ghost use Rattle.std.specs.Prelude.{◌≡◌, ◌++◌, ◌∷◌, [], ◌<◌, ◌≤◌, IfOk, List, length, slice_index_or};
 ghost use Rattle.terms.specs.Terms.{TermView, terms_view};
-ghost use Rattle.solver.specs.Flats.{AreAt, AreFlat, ChainAt, IsLinkPut, IsPut, IsUnrolled, LieSomewhere, PutIf};
-ghost use Rattle.solver.specs.Flats.{flat, flats_view};
-ghost use Rattle.solver.specs.Marks.{IsMarking};
+ghost use Rattle.solver.specs.inner.Flats.{AreAt, AreFlat, ChainAt, IsLinkPut, IsPut, IsUnrolled, LieSomewhere, PutIf};
+ghost use Rattle.solver.specs.inner.Flats.{flat, flats_view};
+ghost use Rattle.solver.specs.inner.Marks.{IsMarking};
 ghost use Rattle.version_sets.specs.Sets.{has};
 
 use crate::flat::{Flat, Source};

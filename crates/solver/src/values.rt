@@ -1,7 +1,7 @@
 //! The values whose places a set has.
 
 ghost use Rattle.std.specs.Prelude.{◌≡◌, ◌++◌, ◌∷◌, [], IfOk, OnOk, if◌then◌else◌, length};
-ghost use Rattle.solver.specs.Decoding.{states_in};
+ghost use Rattle.solver.specs.inner.Decoding.{states_in};
 
 use std::alloc::{AllocError, Global};
 use version_sets::States;

@@ -4,8 +4,8 @@ use Rattle.std.proofs.lemmas.List.{length-replicate}
 use Rattle.incompatibilities.specs.Stores.{EntryView}
 use Rattle.propagation.specs.Promises.{IsNew, IsTrail, LieIn}
 use Rattle.propagation.specs.Trails.{TrailView, space_of}
-use Rattle.search_trials.specs.Meeting.{AreSmall, IsMeeting}
-use Rattle.surface_tests.specs.Spaces.{AllLie}
+use Rattle.search_trials.specs.inner.Meeting.{AreSmall, IsMeeting}
+use Rattle.surface_tests.specs.inner.Spaces.{AllLie}
 
 space_is : (spaces : List ℕ) (t : TrailView) → IsNew spaces t → (u : ℕ) → space_of t u ≡ get_or spaces u 0
 space_is spaces t new u = ap length (new.full u) ∙ length-replicate (get_or spaces u 0) true

@@ -2,9 +2,9 @@
 
 ghost use Rattle.incompatibilities.specs.Stores.{entries_view};
 ghost use Rattle.propagation.specs.Trails.{trail_view};
-ghost use Rattle.search_trials.specs.Meeting.{AreSmall, IsMeeting};
+ghost use Rattle.search_trials.specs.inner.Meeting.{AreSmall, IsMeeting};
 ghost use Rattle.std.specs.Prelude.{IfOk};
-ghost use Rattle.surface_tests.specs.Spaces.{AllLie};
+ghost use Rattle.surface_tests.specs.inner.Spaces.{AllLie};
 
 use crate::sets::members;
 use conflicts::{Outcome, resolve_conflict};

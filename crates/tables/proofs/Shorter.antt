@@ -1,10 +1,12 @@
 -- No more text is left after a key, a string or a scalar than was there, and no key has many parts.
-use Rattle.std.proofs.Common.{◌≡◌, ℕ, zero, suc, ◌+◌, ◌<◌, ◌≤◌, Bool, true, false, cond, ◌==◌, ◌&&◌, List, [], ◌∷◌, ◌++◌}
+use Rattle.std.proofs.Common.{◌≡◌, ℕ, zero, suc, ◌+◌, ◌<◌, ◌≤◌, Bool, true, false, cond, ◌==◌, ◌&&◌, List, [], ◌∷◌}
+use Rattle.std.proofs.Common.{◌++◌}
 use Rattle.std.proofs.Common.{length, drop, slice_index, nat_lt, Option, Some, None, is_some, unwrap_or, option_map}
 use Rattle.std.proofs.Common.{option_and_then, encode_utf8, refl, arith, eqb-true, length-append}
 use Rattle.std.proofs.lemmas.List.{length-drop}
 use Rattle.std.specs.List.{prefix_len}
-use Rattle.toml_parser.specs.Lexical.{Read, equals, dot, quote, backslash, line_feed, first, is_bare, is_ws, split_while}
+use Rattle.toml_parser.specs.Lexical.{Read, equals, dot, quote, backslash, line_feed, first, is_bare, is_ws}
+use Rattle.toml_parser.specs.Lexical.{split_while}
 use Rattle.toml_parser.specs.Lexical.{skip_ws, skip_turn, skip_from, skip_blank, starts_newline}
 use Rattle.toml_parser.specs.Strings.{hex_len, hex_escape, escape_char, escape, is_plain, at_delims, special, prepend}
 use Rattle.toml_parser.specs.Strings.{after_piece, body, trim_newline, one_line, quoted, starts_string, simple_key}

@@ -1,7 +1,8 @@
 -- The tables in a text have few members together: at most 162 for each byte. A pair adds itself and a table for each part
 -- of its key and of the header that it stands under, and these have at most 81 parts each.
 use Rattle.std.proofs.Common.{◌≡◌, ℕ, zero, suc, ◌+◌, ◌*◌, ◌<◌, ◌≤◌, Bool, true, false, cond, ◌==◌, ◌&&◌, List, [], ◌∷◌}
-use Rattle.std.proofs.Common.{◌++◌, length, drop, slice_index, Option, Some, None, option_map, option_and_then, refl, sym}
+use Rattle.std.proofs.Common.{◌++◌, length, drop, slice_index, Option, Some, None, option_map, option_and_then, refl}
+use Rattle.std.proofs.Common.{sym}
 use Rattle.std.proofs.Common.{ap, subst, arith, eqb-true, length-append, Ordering, Less, Equal, Greater, nat_cmp}
 use Rattle.std.proofs.lemmas.List.{length-drop}
 use Rattle.std.proofs.lemmas.Option.{none-some, same_Some}
@@ -17,8 +18,10 @@ use Rattle.toml_parser.proofs.LexicalLemmas.{within_from_byte}
 use Rattle.toml.specs.Data.{Data, string, integer, float, boolean, datetime, array, table, Items, no_items, item}
 use Rattle.toml.specs.Data.{Members, no_members, member, same_key, push_item}
 use Rattle.toml.specs.Tables.{Origin, implicit, dotted, header, Node, value, open_table, open_array, Nodes, no_nodes}
-use Rattle.toml.specs.Tables.{node, get_node, insert, replace, close_node, close, Edit, header_node, dot_node, by_header}
-use Rattle.toml.specs.Tables.{by_dot, along_header, along_dots, Definition, key_value, std_table, array_table, Expression}
+use Rattle.toml.specs.Tables.{node, get_node, insert, replace, close_node, close, Edit, header_node, dot_node}
+use Rattle.toml.specs.Tables.{by_header}
+use Rattle.toml.specs.Tables.{by_dot, along_header, along_dots, Definition, key_value, std_table, array_table}
+use Rattle.toml.specs.Tables.{Expression}
 use Rattle.toml.specs.Tables.{new_node, redefine, at_found, at_key, put, Document, define_as, define}
 use Rattle.toml.specs.Parse.{read_map, after_byte, after_element, key_equals, keyval, items, members, scalar_data, atom}
 use Rattle.toml.specs.Parse.{val, header_key, expression, ends_line, line, lines, skip_bom, parse_document}

@@ -1,3 +1,3 @@
 pub use Rattle.model.specs.Optional
 pub mod Rows
-pub mod Lines
+pub mod inner

@@ -1,7 +1,7 @@
 //! The numbers of lines.
 
 ghost use Rattle.std.specs.Prelude.{◌≡◌, ◌≤◌, filter, length};
-ghost use Rattle.tables.specs.Lines.{is_line_end, line_after};
+ghost use Rattle.tables.specs.inner.Lines.{is_line_end, line_after};
 
 /// The number of the line that stands behind these bytes, from 1.
 pub fn line_after(before: &[u8]) -> usize

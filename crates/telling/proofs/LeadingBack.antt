@@ -2,9 +2,9 @@
 use Rattle.std.proofs.Common.{◌≡◌, ℕ, zero, suc, ◌+◌, ◌<◌, List, [], ◌∷◌, Some, ap, arith}
 use Rattle.std.proofs.lemmas.Option.{none-some, same_Some}
 use Rattle.model.specs.Derivation.{Step, given, combine}
-use Rattle.derivations.specs.Derivations.{AreStepsFrom, IsDerivation}
-use Rattle.derivations.specs.References.{references_at}
-use Rattle.telling.specs.Outlines.{LeadsBack}
+use Rattle.derivations.specs.inner.Derivations.{AreStepsFrom, IsDerivation}
+use Rattle.derivations.specs.inner.References.{references_at}
+use Rattle.telling.specs.inner.Outlines.{LeadsBack}
 
 back-from : (k : ℕ) (ss : List Step) (i a b : ℕ) → AreStepsFrom k ss → references_at ss i ≡ Some (a, b)
     → (a < k + i) × (b < k + i)

@@ -7,14 +7,15 @@ use Rattle.std.specs.Slice.{IsItemAt}
 use Rattle.std.proofs.lemmas.Option.{none-some, same_Some, slice_get-map}
 use Rattle.model.specs.Axioms as axioms
 use Rattle.model.specs.Derivation as steps
-use Rattle.derivations.specs.Derivations.{IsTerm, AreTerms, AreStepsFrom}
-use Rattle.derivations.specs.Tables.{TablesView, AreStepsOf, AreTermsOf, terms_at, step_at, steps_at, step_by_origin}
+use Rattle.derivations.specs.inner.Derivations.{IsTerm, AreTerms, AreStepsFrom}
+use Rattle.derivations.specs.inner.Tables.{TablesView, AreStepsOf, AreTermsOf, terms_at, step_at, steps_at}
+use Rattle.derivations.specs.inner.Tables.{step_by_origin}
 use Rattle.derivations.specs.declared.step.Origin.{Origin}
 use Rattle.derivations.specs.declared.step.Origin.TheVariants.{Axiom, Combination}
 use Rattle.derivations.specs.declared.step.Step.{Step}
 use Rattle.derivations.specs.declared.step.Term.{Term}
 use Rattle.catalogue.proofs.Rows.{item_at}
-use Rattle.telling.specs.Terms.{IsOrderedTerm, terms_if}
+use Rattle.telling.specs.inner.Terms.{IsOrderedTerm, terms_if}
 
 each-term : (t : TablesView) (terms : List Term) → AreTermsOf t terms → AllByRecursion IsTerm (terms_at t terms)
     → AllByRecursion (IsOrderedTerm t) terms

@@ -12,13 +12,15 @@ use Rattle.std.proofs.lemmas.List.Quantifiers.{all_pairs_push}
 use Rattle.model.specs.Derivation.{Step}
 use Rattle.model.proofs.Lists.{all_none, any_of, in_cons, in_first, in_none, in_rest, pairs_none}
 use Rattle.model.proofs.Places.{get_more, get_push}
-use Rattle.derivations.specs.References.{references_at}
-use Rattle.telling.specs.Outlines.{FollowsBy, Follows, IsOutline, IsShown, Outline, LeadsBack, Sentences, by_fact}
-use Rattle.telling.specs.Outlines.{fact_of, has_premise, is_merged, is_needed, is_plain, is_told_before, looked_at}
-use Rattle.telling.specs.Outlines.{merged, nothing_yet, outline_from, premises_at, premises_by, premises_of}
-use Rattle.telling.specs.Outlines.{same_premise}
-use Rattle.telling.specs.Outlines.{sentences_of, step_at, uses_at, uses_of, with_premise, with_premises, with_sentence}
-use Rattle.telling.specs.Outlines.IsShown.{shown_by_sentence, shown_by_fact, shown_by_premises}
+use Rattle.derivations.specs.inner.References.{references_at}
+use Rattle.telling.specs.inner.Outlines.{FollowsBy, Follows, IsOutline, IsShown, Outline, LeadsBack, Sentences, by_fact}
+use Rattle.telling.specs.inner.Outlines.{fact_of, has_premise, is_merged, is_needed, is_plain, is_told_before}
+use Rattle.telling.specs.inner.Outlines.{looked_at}
+use Rattle.telling.specs.inner.Outlines.{merged, nothing_yet, outline_from, premises_at, premises_by, premises_of}
+use Rattle.telling.specs.inner.Outlines.{same_premise}
+use Rattle.telling.specs.inner.Outlines.{sentences_of, step_at, uses_at, uses_of, with_premise, with_premises}
+use Rattle.telling.specs.inner.Outlines.{with_sentence}
+use Rattle.telling.specs.inner.Outlines.IsShown.{shown_by_sentence, shown_by_fact, shown_by_premises}
 use Rattle.telling.specs.declared.outline.Note.{Note}
 use Rattle.telling.specs.declared.outline.Premise.{Premise}
 use Rattle.telling.specs.declared.outline.Premise.TheVariants.{Fact, Told}

@@ -4,7 +4,7 @@ use Rattle.std.proofs.Common.{◌++◌, Option, Some, None, slice_get, Contains,
 use Rattle.std.proofs.lemmas.Bool.Decides.{leb_tells}
 use Rattle.std.proofs.lemmas.Option.{none-some, same_Some}
 use Rattle.model.proofs.Lists.{in_none, in_cons, in_first, in_rest}
-use Rattle.telling.specs.Spans.{extended, spans_put, spans_from, spans_of, IsInOne}
+use Rattle.telling.specs.inner.Spans.{extended, spans_put, spans_from, spans_of, IsInOne}
 use Rattle.telling.specs.declared.spans.Span.{Span}
 
 -- the run that is open before a place

@@ -7,9 +7,9 @@ use Rattle.std.proofs.lemmas.Bool.Decides.{leb_tells}
 use Rattle.std.proofs.lemmas.List.{get_or-set_same, get_or-set_other, length-set}
 use Rattle.std.proofs.lemmas.Option.{none-some, same_Some}
 use Rattle.model.specs.Derivation.{Step}
-use Rattle.derivations.specs.References.{references_at}
-use Rattle.telling.specs.Outlines.{is_needed, one_more, uses_at, uses_down, uses_of, with_end, with_one_more}
-use Rattle.telling.specs.Outlines.{with_two_more, LeadsBack}
+use Rattle.derivations.specs.inner.References.{references_at}
+use Rattle.telling.specs.inner.Outlines.{is_needed, one_more, uses_at, uses_down, uses_of, with_end, with_one_more}
+use Rattle.telling.specs.inner.Outlines.{with_two_more, LeadsBack}
 use Rattle.telling.specs.declared.uses.Uses.{Uses}
 use Rattle.telling.specs.declared.uses.Uses.TheVariants.{Never, Once, Often, End}
 

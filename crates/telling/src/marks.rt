@@ -6,10 +6,10 @@ ghost use Rattle.features.specs.Views.{requirement_view};
 ghost use Rattle.model.specs.Selection.{class_of};
 ghost use Rattle.model.specs.Vertices.{same_class};
 ghost use Rattle.classes.specs.Classes.{class_view};
-ghost use Rattle.vertices.specs.RefViews.{state_ref_view};
-ghost use Rattle.lookups.specs.Matching.{is_lacking};
-ghost use Rattle.lookups.specs.Views.{problem_view};
-ghost use Rattle.telling.specs.Marks.{is_among, is_target_of, is_version_of};
+ghost use Rattle.vertices.specs.inner.RefViews.{state_ref_view};
+ghost use Rattle.lookups.specs.inner.Matching.{is_lacking};
+ghost use Rattle.lookups.specs.inner.Views.{problem_view};
+ghost use Rattle.telling.specs.inner.Marks.{is_among, is_target_of, is_version_of};
 
 use classes::{Class, is_matched};
 use features::{FeatureName, PackageName};

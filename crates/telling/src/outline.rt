@@ -1,11 +1,12 @@
 //! Which steps of a derivation are told, and by which premises.
 
 ghost use Rattle.std.specs.Prelude.{◌≡◌, ◌++◌, ◌∷◌, [], IfOk, OnOk, length, map, slice_get};
-ghost use Rattle.telling.specs.Outlines as outlines;
-ghost use Rattle.telling.specs.Outlines.{IsOutline, by_fact, fact_of, has_premise, is_plain, is_told_before, looked_at};
-ghost use Rattle.telling.specs.Outlines.{merged, outline_from, premises_at, same_premise, too_many, with_premise};
-ghost use Rattle.telling.specs.Outlines.{with_premises, with_sentence, with_step};
-ghost use Rattle.telling.specs.Views.{sentence_views, so_far_view};
+ghost use Rattle.telling.specs.inner.Outlines as outlines;
+ghost use Rattle.telling.specs.inner.Outlines.{IsOutline, by_fact, fact_of, has_premise, is_plain, is_told_before};
+ghost use Rattle.telling.specs.inner.Outlines.{looked_at};
+ghost use Rattle.telling.specs.inner.Outlines.{merged, outline_from, premises_at, same_premise, too_many, with_premise};
+ghost use Rattle.telling.specs.inner.Outlines.{with_premises, with_sentence, with_step};
+ghost use Rattle.telling.specs.inner.Views.{sentence_views, so_far_view};
 
 use crate::uses::{Uses, is_needed, uses_of};
 use derivations::Derivation;
@@ -65,7 +66,7 @@ pub fn sentences_of(
     Ok(so_far.sentences)
 }
 
-#[tactic(auto, unfolding(crate::specs::Outlines::outline_from))]
+#[tactic(auto, unfolding(crate::specs::inner::Outlines::outline_from))]
 fn look_at_all(
     alloc: Global,
     so_far: &mut SoFar,
@@ -242,7 +243,7 @@ fn both(alloc: Global, first: &[Premise], second: &[Premise]) -> Result<Vec<Prem
     Ok(premises)
 }
 
-#[tactic(auto, unfolding(crate::specs::Outlines::with_premises))]
+#[tactic(auto, unfolding(crate::specs::inner::Outlines::with_premises))]
 fn add_premises(premises: &mut Vec<Premise>, more: &[Premise]) -> Result<(), AllocError>
     ensures { OnOk result (premises.new.items ≡ with_premises premises.old.items more.now) }
 {

@@ -3,8 +3,8 @@
 ghost use Rattle.std.specs.Prelude.{◌≡◌, ◌<◌, ◌++◌, OnOk, codes, length, map, string_bytes};
 ghost use Rattle.std.specs.List.{list_all};
 ghost use Rattle.semver.specs.Identifiers.{parts_of};
-ghost use Rattle.telling.specs.Words as words;
-ghost use Rattle.telling.specs.Words.{before_words, runs_words, span_words, spans_words, text_at, versions_words};
+ghost use Rattle.telling.specs.inner.Words as words;
+ghost use Rattle.telling.specs.inner.Words.{before_words, runs_words, span_words, spans_words, text_at, versions_words};
 
 use crate::spans::{Span, spans_of};
 use features::PackageName;
@@ -60,7 +60,7 @@ fn push_runs(
     push_spans(text, versions, spans)
 }
 
-#[tactic(auto, unfolding(crate::specs::Words::spans_words))]
+#[tactic(auto, unfolding(crate::specs::inner::Words::spans_words))]
 fn push_spans(text: &mut String, versions: &[Version], spans: &[Span]) -> Result<(), AllocError>
     ensures { OnOk result (string_bytes text.new
         ≡ string_bytes text.old ++ spans_words (map parts_of versions.now) (length spans.now) 0 spans.now) }

@@ -1,8 +1,8 @@
 //! Versions as ranges over the candidates of a name.
 
 ghost use Rattle.std.specs.Prelude.{◌≡◌, ◌↔◌, ◌++◌, ℕ, IfOk, OnOk, Some, true, slice_get};
-ghost use Rattle.telling.specs.Spans as spans;
-ghost use Rattle.telling.specs.Spans.{IsInOne, extended, run_after, spans_of, spans_put};
+ghost use Rattle.telling.specs.inner.Spans as spans;
+ghost use Rattle.telling.specs.inner.Spans.{IsInOne, extended, run_after, spans_of, spans_put};
 
 use std::alloc::{AllocError, Global};
 
@@ -22,7 +22,7 @@ pub fn spans_of(alloc: Global, marks: &[bool]) -> Result<Vec<Span>, AllocError>
     Ok(spans)
 }
 
-#[tactic(auto, unfolding(crate::specs::Spans::spans_from))]
+#[tactic(auto, unfolding(crate::specs::inner::Spans::spans_from))]
 fn runs_of(alloc: Global, marks: &[bool]) -> Result<Vec<Span>, AllocError>
     ensures { IfOk result (λ v. v.items ≡ spans_of marks.now) }
 {

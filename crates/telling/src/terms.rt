@@ -2,9 +2,9 @@
 
 ghost use Rattle.std.specs.Prelude.{◌≡◌, IfOk, slice_get};
 ghost use Rattle.std.specs.List.{AllByRecursion};
-ghost use Rattle.lookups.specs.TermViews.{term_view, term_views};
-ghost use Rattle.derivations.specs.Tables.{term_at, terms_at};
-ghost use Rattle.telling.specs.Terms.{IsOrderedTerm, terms_if};
+ghost use Rattle.lookups.specs.inner.TermViews.{term_view, term_views};
+ghost use Rattle.derivations.specs.inner.Tables.{term_at, terms_at};
+ghost use Rattle.telling.specs.inner.Terms.{IsOrderedTerm, terms_if};
 
 use derivations::{Derivation, Tables, states_in};
 use lookups::{StateSet, Term};

@@ -1,8 +1,8 @@
 //! How many of the needed steps of a derivation combine each step.
 
 ghost use Rattle.std.specs.Prelude.{◌≡◌, IfOk, if◌then◌else◌};
-ghost use Rattle.telling.specs.Outlines.{is_needed, uses_of, with_end, with_one_more, with_two_more};
-ghost use Rattle.telling.specs.Outlines as outlines;
+ghost use Rattle.telling.specs.inner.Outlines.{is_needed, uses_of, with_end, with_one_more, with_two_more};
+ghost use Rattle.telling.specs.inner.Outlines as outlines;
 
 use derivations::Derivation;
 use std::alloc::{AllocError, Global};
@@ -18,7 +18,7 @@ pub enum Uses {
 }
 
 /// For each step how many needed ones combine it.
-#[tactic(auto, unfolding(crate::specs::Outlines::uses_down))]
+#[tactic(auto, unfolding(crate::specs::inner::Outlines::uses_down))]
 pub(crate) fn uses_of(alloc: Global, derivation: &Derivation) -> Result<Vec<Uses>, AllocError>
     ensures { IfOk result (λ v. v.items ≡ uses_of derivation.now) }
 {

@@ -17,7 +17,7 @@ use Rattle.json.proofs.Printed.Utf8.{IsUtf8-are_ascii}
 use Rattle.serde_json.specs.Data.{Data, array, item}
 use Rattle.serde_json.specs.Read.{of_json}
 use Rattle.model.proofs.Utf8.{utf8-read}
-use Rattle.trees.specs.Parts.{read_within, data_within, between_commas, list_of, items_of_data}
+use Rattle.trees.specs.inner.Parts.{read_within, data_within, between_commas, list_of, items_of_data}
 use Rattle.trees.specs.Trees.{items_fit, items_of}
 use Rattle.trees.proofs.LexLemmas.{outside}
 use Rattle.trees.proofs.PunctuationLemmas.{good-json, lexemes_good, value-then, all_good}

@@ -17,7 +17,8 @@ use Rattle.json.proofs.Printed.Utf8.{IsUtf8-are_ascii}
 use Rattle.serde_json.specs.Data.{Data, object, Members, no_members, put}
 use Rattle.serde_json.specs.Read.{of_json}
 use Rattle.model.proofs.Utf8.{utf8-read}
-use Rattle.trees.specs.Parts.{is_plain, read_within, data_within, member_text, members_text, object_text, members_put}
+use Rattle.trees.specs.inner.Parts.{is_plain, read_within, data_within, member_text, members_text, object_text}
+use Rattle.trees.specs.inner.Parts.{members_put}
 use Rattle.trees.specs.Trees.{members_fit, members_of}
 use Rattle.trees.proofs.LexLemmas.{outside}
 use Rattle.trees.proofs.PunctuationLemmas.{good-json, lexemes_good, value-then, all_good}

@@ -23,8 +23,9 @@ use Rattle.serde_json.specs.Data.{Data, object, Members, no_members}
 use Rattle.serde_json.specs.Find.{get_member}
 use Rattle.serde_json.specs.Read.{of_json, read, max_depth}
 use Rattle.model.proofs.Utf8.{utf8-read}
-use Rattle.trees.specs.Parts.{is_plain_byte, is_plain, read_within, data_within, part_depth, line_of, first_members}
-use Rattle.trees.specs.Tokens.{json_from}
+use Rattle.trees.specs.inner.Parts.{is_plain_byte, is_plain, read_within, data_within, part_depth, line_of}
+use Rattle.trees.specs.inner.Parts.{first_members}
+use Rattle.trees.specs.inner.Tokens.{json_from}
 use Rattle.trees.specs.Trees.{data_of_bytes, numbers_fit, data_of, members_of}
 use Rattle.trees.proofs.LexLemmas.{outside}
 use Rattle.trees.proofs.PunctuationLemmas.{good-json, lexemes_good, value-then, key-behind_comma, all_good}

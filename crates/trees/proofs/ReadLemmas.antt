@@ -20,7 +20,7 @@ use Rattle.json.proofs.Nesting.{value-depth}
 use Rattle.json.proofs.Printed.Trees.{value-json_tokens}
 use Rattle.model.specs.Optional.{passes}
 use Rattle.model.proofs.Utf8.{utf8-read, utf8-refused}
-use Rattle.trees.specs.Parts.{json_within, read_within, data_within}
+use Rattle.trees.specs.inner.Parts.{json_within, read_within, data_within}
 use Rattle.trees.specs.Trees.{numbers_fit, data_of, tokens_view}
 use Rattle.trees.specs.declared.fault.TreeFault.TheVariants.{NotJson}
 use Rattle.trees.proofs.TokenLemmas.{value-spelt, json_from-read, left_after, fit_within, fit-depth, depth-fit}

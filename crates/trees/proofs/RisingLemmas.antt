@@ -4,7 +4,7 @@ use Rattle.std.proofs.Common.{map, Bor, refl, sym, ap, ◌∙◌}
 use Rattle.std.specs.Ordering.{nat_cmp, ordering_reverse, is_lt}
 use Rattle.std.specs.Cmp.Lexicographic.{slice_cmp, nat_list_cmp_total}
 use Rattle.serde_json.specs.Data.{Data, Members, no_members, member, put}
-use Rattle.trees.specs.Parts.{keys_rise, members_put, members_in_order}
+use Rattle.trees.specs.inner.Parts.{keys_rise, members_put, members_in_order}
 use Rattle.trees.specs.Trees.{put_all, entries_view, listed_view, rise_after, tree_view}
 use Rattle.trees.specs.declared.tree.Tree.{Tree}
 

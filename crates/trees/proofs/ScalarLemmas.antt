@@ -13,7 +13,7 @@ use Rattle.json.proofs.Printed.Utf8.{IsUtf8-are_ascii}
 use Rattle.serde_json.specs.Data.{boolean, null, string}
 use Rattle.serde_json.specs.Read.{of_json}
 use Rattle.model.proofs.Utf8.{utf8-read}
-use Rattle.trees.specs.Parts.{data_within, is_plain, read_within}
+use Rattle.trees.specs.inner.Parts.{data_within, is_plain, read_within}
 use Rattle.trees.specs.Trees.{data_of, numbers_fit}
 use Rattle.trees.proofs.PartsLemmas.{ascii_plain, lex-plain}
 use Rattle.trees.proofs.TreeLemmas.{if_fits, of_json-fits}

@@ -1,6 +1,8 @@
 -- A text has no more values in it than bytes, and one more.
-use Rattle.std.proofs.Common.{ℕ, suc, ◌+◌, ◌≤◌, List, [], ◌∷◌, ◌++◌, length, Bool, true, false, cond, Option, Some, None}
-use Rattle.std.proofs.Common.{◌≡◌, option_map, option_and_then, refl, ap, arith, length-append, Ordering, Less, Equal, Greater}
+use Rattle.std.proofs.Common.{ℕ, suc, ◌+◌, ◌≤◌, List, [], ◌∷◌, ◌++◌, length, Bool, true, false, cond, Option, Some}
+use Rattle.std.proofs.Common.{None}
+use Rattle.std.proofs.Common.{◌≡◌, option_map, option_and_then, refl, ap, arith, length-append, Ordering, Less, Equal}
+use Rattle.std.proofs.Common.{Greater}
 use Rattle.std.proofs.Common.{nat_cmp, subst}
 use Rattle.std.specs.Cmp.Lexicographic.{slice_cmp}
 use Rattle.std.specs.Ordering.{match_ordering}

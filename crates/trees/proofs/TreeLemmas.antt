@@ -20,10 +20,10 @@ use Rattle.serde_json.specs.Read.{number_of, of_json, of_items, of_members}
 use Rattle.serde_json.specs.View.{view, members_view}
 use Rattle.serde_json.specs.declared.value.Value.{Value}
 use Rattle.serde_json.proofs.Views.{get_member-put, get_member-put_other, put_last}
-use Rattle.trees.specs.Parts.{members_put}
+use Rattle.trees.specs.inner.Parts.{members_put}
 use Rattle.trees.specs.Trees.{numbers_fit, items_fit, members_fit, data_of, items_of, listed, members_of}
 use Rattle.trees.specs.Trees.{num_of, is_null, tokens_view, tree_view, trees_view, put_all, sorted_view}
-use Rattle.trees.specs.Tokens.{begins}
+use Rattle.trees.specs.inner.Tokens.{begins}
 use Rattle.trees.specs.declared.tree.Tree.{Tree}
 use Rattle.trees.proofs.TokenLemmas.{begins-read, json_from-read}
 

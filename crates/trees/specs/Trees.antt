@@ -13,7 +13,7 @@ use Rattle.serde_json.specs.Data.{item, Members, no_members, member, put}
 use Rattle.serde_json.specs.Read.{number_of, read}
 use Rattle.serde_json.specs.View.{view, items_view}
 use Rattle.model.specs.Optional.{of_utf8}
-use Rattle.trees.specs.Tokens.{json_from, items_from, members_from}
+use Rattle.trees.specs.inner.Tokens.{json_from, items_from, members_from}
 use Rattle.trees.specs.declared.fault.TreeFault.{TreeFault}
 use Rattle.trees.specs.declared.fault.TreeFault.TheVariants.{OutOfMemory, NotJson}
 use Rattle.trees.specs.declared.reading.TextRead.{TextRead}

@@ -3,7 +3,7 @@
 ghost use Rattle.std.specs.Prelude.{◌≡◌, option_map};
 ghost use Rattle.serde_json.specs.Data.{no_members};
 ghost use Rattle.serde_json.specs.Find.{as_array, as_object};
-ghost use Rattle.trees.specs.Parts.{members_put};
+ghost use Rattle.trees.specs.inner.Parts.{members_put};
 ghost use Rattle.trees.specs.Trees.{IsNext, IsNextItem, left, left_items, tree_view};
 
 use crate::tree::{Elements, Entries, ItemTokens, MemberTokens, Tree, TreeTokens};

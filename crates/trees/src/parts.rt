@@ -12,9 +12,10 @@ ghost use Rattle.json.specs.Json as json;
 ghost use Rattle.json.specs.Lex.{tokens};
 ghost use Rattle.serde_json.specs.Data.{Data, Members, array, boolean, no_members, null, object, string};
 ghost use Rattle.serde_json.specs.Find.{get_member};
-ghost use Rattle.trees.specs.Parts.{data_within, first_members, is_plain, items_of_data, keys_rise, line_of, list_of};
-ghost use Rattle.trees.specs.Parts.{members_in_order, members_put, object_text, part_depth};
-ghost use Rattle.trees.specs.Tokens.{json_from};
+ghost use Rattle.trees.specs.inner.Parts.{data_within, first_members, is_plain, items_of_data, keys_rise, line_of};
+ghost use Rattle.trees.specs.inner.Parts.{list_of};
+ghost use Rattle.trees.specs.inner.Parts.{members_in_order, members_put, object_text, part_depth};
+ghost use Rattle.trees.specs.inner.Tokens.{json_from};
 ghost use Rattle.trees.specs.Trees.{data_of_bytes, members_of};
 
 /// A line of plain texts, of dependencies and features that are read on their own, and of a rest that is read as an

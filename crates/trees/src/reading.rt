@@ -6,7 +6,7 @@ ghost use Rattle.json.specs.Json.{document, max_depth};
 ghost use Rattle.json.specs.Lex.{tokens};
 ghost use Rattle.json.specs.Tape.{node_token};
 ghost use Rattle.model.specs.Outcome.{Gives};
-ghost use Rattle.trees.specs.Parts.{data_within, read_within};
+ghost use Rattle.trees.specs.inner.Parts.{data_within, read_within};
 ghost use Rattle.trees.specs.Trees.{wants_memory, data_of_bytes, text_view, tree_view};
 
 use crate::fault::TreeFault;

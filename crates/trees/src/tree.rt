@@ -3,7 +3,7 @@
 //! It lies among the tokens of a tape; where the text is too long for one, in a value of `serde_json`'s.
 
 ghost use Rattle.std.specs.Prelude.{◌≡◌, true};
-ghost use Rattle.trees.specs.Tokens.{begins, has_items, has_members};
+ghost use Rattle.trees.specs.inner.Tokens.{begins, has_items, has_members};
 
 use json::{Element, Items, Members};
 use serde_json::Value;

@@ -10,8 +10,8 @@ use Rattle.std.proofs.lemmas.Simd.{get_or-zip2, length-zip2}
 use Rattle.std.specs.Int.{bit_at, bit_not, w64}
 use Rattle.std.specs.Simd.Lanes.{zip2}
 use Rattle.version_sets.specs.Sets.{Members, has, inside, join, meet, meets, rest}
-use Rattle.version_sets.specs.Listed.{set_where}
-use Rattle.version_sets.specs.Words.{IsWords, all_zero, and_not, has_bit}
+use Rattle.version_sets.specs.inner.Listed.{set_where}
+use Rattle.version_sets.specs.inner.Words.{IsWords, all_zero, and_not, has_bit}
 use Rattle.version_sets.proofs.Within.{inside_has, meets_at}
 use Rattle.version_sets.proofs.Listing.{has-set_where, join_where, length-set_where, meet_where, rest_where, set_agree}
 

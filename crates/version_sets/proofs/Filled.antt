@@ -16,8 +16,8 @@ use Rattle.std.specs.Int.RustNames.{count_ones}
 use Rattle.std.specs.List.{range_with_len}
 use Rattle.std.specs.Simd.Lanes.{mask_l}
 use Rattle.version_sets.specs.Sets.{Members, every, none, only, size}
-use Rattle.version_sets.specs.Listed.{set_where}
-use Rattle.version_sets.specs.Words.{IsWords, has_bit, ones_in}
+use Rattle.version_sets.specs.inner.Listed.{set_where}
+use Rattle.version_sets.specs.inner.Words.{IsWords, has_bit, ones_in}
 use Rattle.version_sets.proofs.Bits.{bit_and_is, bit_is, none_past}
 use Rattle.version_sets.proofs.Laws.{size-le}
 use Rattle.version_sets.proofs.Listing.{every_where, length-set_where, map_agree_from, none_where, only_where}

@@ -12,7 +12,7 @@ use Rattle.std.specs.Int.Bits.{or_add_and}
 use Rattle.std.proofs.lemmas.Simd.{chunk-drop, length-chunk, length-zip2, put_chunk_is}
 use Rattle.std.specs.Int.RustNames.{count_ones}
 use Rattle.std.specs.Simd.Lanes.{chunk, fold_l, put_chunk, zip2}
-use Rattle.version_sets.specs.Words.{all_zero, and_not, ones_in}
+use Rattle.version_sets.specs.inner.Words.{all_zero, and_not, ones_in}
 
 module _ (f : ℕ → ℕ → ℕ) where
   -- the words of a, with f of b's up to n, and as they were from there on

@@ -12,7 +12,7 @@ use Rattle.std.proofs.lemmas.List.FromFn.{length-range_with_len, fill_by_all}
 use Rattle.std.specs.List.{filter, list_any, list_all, range_with_len}
 use Rattle.version_sets.specs.Sets.{Members, every, has, inside, join, meet, meets, none, only, rest, size}
 use Rattle.version_sets.proofs.Laws.{size-le}
-use Rattle.version_sets.specs.Listed.{IsList, below, is_listed, list_where, set_where}
+use Rattle.version_sets.specs.inner.Listed.{IsList, below, is_listed, list_where, set_where}
 
 -- two tests that agree on the numbers from a on
 pub filter_agree_from : (p q : ℕ → Bool) (a n : ℕ) → ((i : ℕ) → a ≤ i → i < a + n → p i ≡ q i)

@@ -8,10 +8,10 @@ use Rattle.std.specs.Int.{bit_not, w64}
 use Rattle.std.specs.Int.RustNames.{count_ones}
 use Rattle.std.specs.Prelude.{IfOk, IsTrue}
 use Rattle.std.specs.Simd.Lanes.{zip2}
-use Rattle.version_sets.specs.Forms.{universe_in, words_in}
-use Rattle.version_sets.specs.Listed.{set_where}
+use Rattle.version_sets.specs.inner.Forms.{universe_in, words_in}
+use Rattle.version_sets.specs.inner.Listed.{set_where}
 use Rattle.version_sets.specs.Sets.{Members, has, inside, join, meet, meets, rest, size}
-use Rattle.version_sets.specs.Words.{AreWords, IsWords, all_zero, and_not, has_bit, ones_in}
+use Rattle.version_sets.specs.inner.Words.{AreWords, IsWords, all_zero, and_not, has_bit, ones_in}
 use Rattle.version_sets.specs.declared.words.Form.{Form}
 use Rattle.version_sets.proofs.Bits.{and_is, apart_is, has_is, or_is, same_words, turned_is, within_is, words_and}
 use Rattle.version_sets.proofs.Bits.{words_or}

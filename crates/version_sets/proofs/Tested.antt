@@ -6,8 +6,8 @@ use Rattle.std.proofs.lemmas.Bool.{cases_eq, cases_lt}
 use Rattle.std.proofs.lemmas.List.{get_or_append_left, length-append}
 use Rattle.std.proofs.lemmas.Nat.Bits.{bit_at-zero, bit_at-pow_same, bit_at-pow_other}
 use Rattle.version_sets.specs.Sets.{Members, has}
-use Rattle.version_sets.specs.Listed.{set_where}
-use Rattle.version_sets.specs.Words.{AreWordsOf, IsWords, has_bit}
+use Rattle.version_sets.specs.inner.Listed.{set_where}
+use Rattle.version_sets.specs.inner.Words.{AreWordsOf, IsWords, has_bit}
 use Rattle.version_sets.proofs.Bits.{bit_is, bit_or_is, none_past}
 use Rattle.version_sets.proofs.Listing.{set_agree, set_of_tests}
 

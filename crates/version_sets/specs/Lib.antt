@@ -1,4 +1,2 @@
 pub mod Sets
-pub mod Listed
-pub mod Words
-pub mod Forms
+pub mod inner

@@ -3,7 +3,7 @@
 ghost use Rattle.std.specs.Int.{bit_not, w64};
 ghost use Rattle.std.specs.Prelude.{◌≡◌, ◌<◌, ◌≤◌, ◌+◌, ◌^◌, bit_and, bit_or, length, map};
 ghost use Rattle.std.specs.Simd.Lanes.{chunk, put_chunk, zip2};
-ghost use Rattle.version_sets.specs.Words.{all_zero, and_not, ones_in};
+ghost use Rattle.version_sets.specs.inner.Words.{all_zero, and_not, ones_in};
 
 use std::simd::prelude::*;
 

@@ -14,8 +14,8 @@ use Rattle.semver.specs.Parse.{Parts}
 use Rattle.model.specs.Selection.{Class, patch, minor, major}
 use Rattle.features.specs.Names.{is_package_byte}
 use Rattle.classes.specs.Classes.{class_text}
-use Rattle.features.specs.Valid.{IsPackageName}
-use Rattle.vertices.specs.Valid.{IsValidClass}
+use Rattle.features.specs.inner.Valid.{IsPackageName}
+use Rattle.vertices.specs.inner.Valid.{IsValidClass}
 use Rattle.vertices.proofs.Around.{Lacks, lacks-append, lacks-all}
 use Rattle.vertices.proofs.Numbers.{decimal-digits}
 

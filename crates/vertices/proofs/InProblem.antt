@@ -15,8 +15,9 @@ use Rattle.model.specs.Vertices.{in_that_class, class_candidates}
 use Rattle.model.proofs.Lists.{in_none, in_cons, in_filter, all_first, all_rest, all_get, all_none}
 use Rattle.model.proofs.Owners.{candidate_at-is}
 use Rattle.model.proofs.Same.{class-same, text-same}
-use Rattle.features.specs.Valid.{IsPackageName, IsFeatureName, IsValidEntry, IsValidRow, IsValidDependency, BringsValid}
-use Rattle.vertices.specs.Valid.{IsValidClass, IsIndex, IsValidOwner, IsValidVertex, IsValidRecord, HasValidParts}
+use Rattle.features.specs.inner.Valid.{IsPackageName, IsFeatureName, IsValidEntry, IsValidRow, IsValidDependency}
+use Rattle.features.specs.inner.Valid.{BringsValid}
+use Rattle.vertices.specs.inner.Valid.{IsValidClass, IsIndex, IsValidOwner, IsValidVertex, IsValidRecord, HasValidParts}
 use Rattle.vertices.proofs.Numbers.{class-of-valid}
 
 -- ---- lists

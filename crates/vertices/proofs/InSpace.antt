@@ -7,7 +7,7 @@ use Rattle.model.specs.Vertices.{owner_brings, matching, dep_classes, in_that_cl
 use Rattle.semver.specs.EvalViews.{matches_views}
 use Rattle.model.proofs.Lists.{in_none, in_cons, in_filter, in_map}
 use Rattle.model.proofs.Vertices.{class_from}
-use Rattle.vertices.specs.Valid.{IsValidClass, IsValidState, HasValidParts}
+use Rattle.vertices.specs.inner.Valid.{IsValidClass, IsValidState, HasValidParts}
 use Rattle.vertices.proofs.InProblem.{found}
 use Rattle.vertices.proofs.Numbers.{class-of-valid}
 

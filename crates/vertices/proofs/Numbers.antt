@@ -17,7 +17,7 @@ use Rattle.features.specs.Entries.{after_text}
 use Rattle.classes.specs.Classes.{class_text}
 use Rattle.classes.specs.Numbers.{is_plain_number, number_of}
 use Rattle.vertices.specs.Texts.{above_zero, class_or, class_of_text, index_of}
-use Rattle.vertices.specs.Valid.{IsValidClass, IsIndex}
+use Rattle.vertices.specs.inner.Valid.{IsValidClass, IsIndex}
 
 digit : (m : ℕ) → m < 10 → is_ascii_digit (48 + m) ≡ true
 digit m h = grind arith

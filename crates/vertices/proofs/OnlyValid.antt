@@ -20,8 +20,8 @@ use Rattle.vertices.specs.Texts.{vertex_of_text}
 use Rattle.vertices.proofs.Bound.{steps, same-Ok, same-Some, some, chosen}
 use Rattle.vertices.proofs.MadeOf.{named_version, package_made, dependency_made, feature_made, ask_made}
 use Rattle.vertices.proofs.TextLaws.{version-or}
-use Rattle.features.specs.Valid.{IsPackageName, IsFeatureName}
-use Rattle.vertices.specs.Valid.{IsValidClass, IsIndex, IsValidOwner, IsValidVertex}
+use Rattle.features.specs.inner.Valid.{IsPackageName, IsFeatureName}
+use Rattle.vertices.specs.inner.Valid.{IsValidClass, IsIndex, IsValidOwner, IsValidVertex}
 
 either : {A P : Type 0} (b : Bool) (x y : Reading A) (v : A) → (x ≡ Ok v → P) → (y ≡ Ok v → P) → cond b x y ≡ Ok v → P
 either true x y v f g h = f h

@@ -19,9 +19,9 @@ use Rattle.vertices.specs.Texts.{IsReadVertex, IsReadState, Reading, parted, kin
 use Rattle.vertices.specs.Texts.{feature_name_of, version_or, version_of_text, above_zero, class_of_text}
 use Rattle.vertices.specs.Texts.{named_version_of_text, owner_text, owner_of_text, vertex_text, package_of_text}
 use Rattle.vertices.specs.Texts.{dependency_of_text, feature_of_text, ask_of_text, vertex_of_text, value_of_text}
-use Rattle.features.specs.Valid.{IsPackageName, IsFeatureName}
-use Rattle.vertices.specs.Valid.{IsValidClass, IsIndex, IsValidOwner, IsValidVertex}
-use Rattle.vertices.specs.Valid.{IsValidState}
+use Rattle.features.specs.inner.Valid.{IsPackageName, IsFeatureName}
+use Rattle.vertices.specs.inner.Valid.{IsValidClass, IsIndex, IsValidOwner, IsValidVertex}
+use Rattle.vertices.specs.inner.Valid.{IsValidState}
 use Rattle.vertices.proofs.Around.{Lacks, lacks-append, parted-first}
 use Rattle.vertices.proofs.Numbers.{index-reads, class-is-read}
 use Rattle.vertices.proofs.Dense.{name-lacks, decimal-dense, class-dense, version-dense}

@@ -2,6 +2,4 @@ pub mod Kinds
 pub mod Texts
 pub mod Orders
 pub mod Views
-pub mod RefViews
-pub mod Same
-pub mod Valid
+pub mod inner

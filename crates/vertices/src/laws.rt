@@ -10,7 +10,7 @@ ghost use Rattle.model.specs.Content.{Problem};
 ghost use Rattle.model.specs.Selection.{class_of};
 ghost use Rattle.model.specs.Vertices.{State, Vertex, space};
 ghost use Rattle.vertices.specs.Texts.{IsReadState, IsReadVertex, vertex_of_text, vertex_text};
-ghost use Rattle.vertices.specs.Valid.{HasValidParts, IsValidClass, IsValidState, IsValidVertex};
+ghost use Rattle.vertices.specs.inner.Valid.{HasValidParts, IsValidClass, IsValidState, IsValidVertex};
 
 /// A valid vertex is what its own text reads as.
 pub fn valid_vertices_are_read()

@@ -3,7 +3,7 @@
 ghost use Rattle.std.specs.Prelude.{◌≡◌};
 ghost use Rattle.classes.specs.Classes.{class_view};
 ghost use Rattle.vertices.specs.Orders.{class_cmp, state_cmp, state_rank};
-ghost use Rattle.vertices.specs.RefViews.{state_ref_view};
+ghost use Rattle.vertices.specs.inner.RefViews.{state_ref_view};
 
 use crate::state::StateRef;
 use classes::{Class, version_order};

@@ -6,9 +6,9 @@ ghost use Rattle.std.specs.Ordering.{on};
 ghost use Rattle.model.specs.Vertices.{same_owner, same_vertex, same_state};
 ghost use Rattle.classes.specs.Classes.{class_view};
 ghost use Rattle.vertices.specs.Orders.{class_number};
-ghost use Rattle.vertices.specs.RefViews.{owner_ref_view, vertex_ref_view, state_ref_view};
-ghost use Rattle.vertices.specs.Same.{owner_equivalence, vertex_equivalence, state_equivalence, owner_alike};
-ghost use Rattle.vertices.specs.Same.{vertex_alike, state_alike, owner_fed, vertex_fed, state_fed};
+ghost use Rattle.vertices.specs.inner.RefViews.{owner_ref_view, vertex_ref_view, state_ref_view};
+ghost use Rattle.vertices.specs.inner.Same.{owner_equivalence, vertex_equivalence, state_equivalence, owner_alike};
+ghost use Rattle.vertices.specs.inner.Same.{vertex_alike, state_alike, owner_fed, vertex_fed, state_fed};
 ghost use Rattle.vertices.specs.Views.{owner_view, vertex_view, state_view};
 
 use crate::state::{State, StateRef};

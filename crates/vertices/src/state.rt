@@ -2,7 +2,7 @@
 
 ghost use Rattle.std.specs.Prelude.{◌≡◌};
 ghost use Rattle.model.specs.Outcome.{Gives};
-ghost use Rattle.vertices.specs.RefViews.{state_ref_view};
+ghost use Rattle.vertices.specs.inner.RefViews.{state_ref_view};
 ghost use Rattle.vertices.specs.Texts.{state_of_text, wants_memory};
 ghost use Rattle.vertices.specs.Views.{state_view, vertex_view};
 
@@ -78,7 +78,7 @@ impl fmt::Display for State {
 impl<'a> fmt::Display for StateRef<'a> {
     ghost use Rattle.std.specs.Prelude.{Some};
     ghost use Rattle.vertices.specs.Texts.{state_text};
-    ghost use Rattle.vertices.specs.RefViews.{state_ref_view};
+    ghost use Rattle.vertices.specs.inner.RefViews.{state_ref_view};
 
     ghost output = { λ state. Some (state_text (state_ref_view state)) };
 

@@ -2,7 +2,7 @@
 
 ghost use Rattle.std.specs.Prelude.{◌≡◌};
 ghost use Rattle.model.specs.Outcome.{Gives};
-ghost use Rattle.vertices.specs.RefViews.{owner_ref_view, vertex_ref_view};
+ghost use Rattle.vertices.specs.inner.RefViews.{owner_ref_view, vertex_ref_view};
 ghost use Rattle.vertices.specs.Texts.{owner_of_text, vertex_of_text, wants_memory};
 ghost use Rattle.vertices.specs.Views.{owner_view, vertex_view};
 
@@ -125,7 +125,7 @@ impl fmt::Display for Owner {
 impl<'a> fmt::Display for OwnerRef<'a> {
     ghost use Rattle.std.specs.Prelude.{Some};
     ghost use Rattle.vertices.specs.Texts.{owner_text};
-    ghost use Rattle.vertices.specs.RefViews.{owner_ref_view};
+    ghost use Rattle.vertices.specs.inner.RefViews.{owner_ref_view};
 
     ghost output = { λ owner. Some (owner_text (owner_ref_view owner)) };
 
@@ -153,7 +153,7 @@ impl fmt::Display for Vertex {
 impl<'a> fmt::Display for VertexRef<'a> {
     ghost use Rattle.std.specs.Prelude.{Some};
     ghost use Rattle.vertices.specs.Texts.{vertex_text};
-    ghost use Rattle.vertices.specs.RefViews.{vertex_ref_view};
+    ghost use Rattle.vertices.specs.inner.RefViews.{vertex_ref_view};
 
     ghost output = { λ vertex. Some (vertex_text (vertex_ref_view vertex)) };
 

@@ -2,7 +2,7 @@
 use Rattle.std.proofs.Common.{◌≡◌, [], ◌∷◌, List, refl}
 use Rattle.model.specs.Content.{Problem}
 use Rattle.model.specs.Vertices.{Owner, the_root, version_of}
-use Rattle.model.specs.ContentOf.{Kept, in_package_order, content_of}
+use Rattle.model.specs.inner.ContentOf.{Kept, in_package_order, content_of}
 use Rattle.model.proofs.Examples.Small.{text_a, text_b, version_1_0, version_2_0, on_any, candidate, asked_by_demo}
 use Rattle.model.proofs.Examples.Small.{locked, demo}
 

@@ -1,5 +1,5 @@
-use Rattle.model.specs.ContentOf.{content_of}
-use Rattle.model.specs.Search.{LeadsTo}
+use Rattle.model.specs.inner.ContentOf.{content_of}
+use Rattle.model.specs.inner.Search.{LeadsTo}
 use Rattle.model.proofs.Cut.{stands_valid}
 use Rattle.model.proofs.Gathered.{gathered}
 use Rattle.model.proofs.gathered_contents_select.Goals as goal

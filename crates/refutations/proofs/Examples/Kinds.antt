@@ -10,7 +10,7 @@ use Rattle.model.specs.Axioms.{Term, at, Root, Needed, Target, HasFeature, Wants
 use Rattle.model.specs.Axioms.{FeatureOnDependency, FeatureAsks, NewestListed, WeakFeature}
 use Rattle.refutations.specs.Causes.{of_root, of_need, of_target, of_feature, of_list, of_ask, of_entry, of_enabling}
 use Rattle.refutations.specs.Causes.{of_asking, of_newest, of_weak, is_cause}
-use Rattle.refutations.specs.Instances.{is_instance}
+use Rattle.refutations.specs.inner.Instances.{is_instance}
 use Rattle.refutations.proofs.Examples.Pieces.{plain, exactly, within, from, on, candidate, demo, no_features, class_1}
 use Rattle.refutations.proofs.Examples.Pieces.{class_2, one, HasTerms}
 

@@ -6,7 +6,7 @@ use Rattle.model.specs.Selection.{major}
 use Rattle.model.specs.Vertices.{Owner, the_root, version_of}
 use Rattle.model.specs.Tables.{default_feature}
 use Rattle.refutations.specs.Causes.{Cause, of_root, of_need, of_target, of_feature, of_list, of_newest}
-use Rattle.refutations.specs.Listed.{causes}
+use Rattle.refutations.specs.inner.Listed.{causes}
 use Rattle.refutations.proofs.Examples.Pieces.{plain, within, from, on, candidate, demo, no_features}
 use Rattle.refutations.proofs.Examples.Thirteen.{text_a, text_b, unmeetable}
 

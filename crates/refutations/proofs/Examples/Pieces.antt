@@ -9,7 +9,7 @@ use Rattle.model.specs.Selection.{major}
 use Rattle.model.specs.Vertices.{Vertex, State, in_class}
 use Rattle.model.specs.Axioms.{Term, at, Kind, without_full}
 use Rattle.refutations.specs.Causes.{Cause, is_cause, kind_of, terms_of_cause}
-use Rattle.refutations.specs.Instances.{is_instance}
+use Rattle.refutations.specs.inner.Instances.{is_instance}
 
 abbrev pub plain : ℕ → ℕ → ℕ → Parts
 plain a b c = (a, b, c, [], [])

@@ -6,7 +6,7 @@ use Rattle.model.specs.Selection.{major}
 use Rattle.model.specs.Vertices.{the_root, version_of, Vertex, root, pkg, dep, absent, present, version}
 use Rattle.model.specs.Axioms.{Term, at, Root, Needed, Target}
 use Rattle.model.specs.Derivation.{Step, given, combine}
-use Rattle.refutations.specs.Checks.{not_an_axiom, not_combined, not_final, refused_step}
+use Rattle.refutations.specs.inner.Checks.{not_an_axiom, not_combined, not_final, refused_step}
 use Rattle.refutations.proofs.Examples.Pieces.{plain, exactly, within, on, candidate, demo, no_features, class_1, one}
 
 abbrev pub text_a : List ℕ

@@ -6,7 +6,7 @@ use borrow.Author.Tests.{tests}
 use Rattle.features.specs.EntryViews.{entry_view}
 use Rattle.features.specs.declared.entry.Entry.{Entry}
 use Rattle.refutations.specs.Causes.{same_entry}
-use Rattle.axioms.specs.Entries.{named_view}
+use Rattle.axioms.specs.inner.Entries.{named_view}
 use Rattle.axioms.proofs.entries.has_entry.Goals as goal
 
 pub returns : goal.returns

@@ -1,7 +1,7 @@
 use Rattle.std.proofs.Common.{◌≡◌, ◌||◌}
 use Rattle.std.specs.List.{list_any}
-use Rattle.features.specs.Tables.{rows_of}
-use Rattle.axioms.specs.Entries.{has_named, named_view, row_has}
+use Rattle.features.specs.inner.Tables.{rows_of}
+use Rattle.axioms.specs.inner.Entries.{has_named, named_view, row_has}
 use Rattle.axioms.specs.declared.entries.Named.{Named}
 use Rattle.axioms.proofs.entries.put_rows.Given as goal
 

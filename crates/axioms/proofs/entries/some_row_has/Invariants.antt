@@ -1,7 +1,7 @@
 use Rattle.std.proofs.Common.{◌≡◌}
 use Rattle.std.specs.List.{list_any}
-use Rattle.features.specs.Tables.{rows_of}
-use Rattle.axioms.specs.Entries.{named_view, row_has}
+use Rattle.features.specs.inner.Tables.{rows_of}
+use Rattle.axioms.specs.inner.Entries.{named_view, row_has}
 use Rattle.axioms.proofs.entries.some_row_has.Given as goal
 
 -- some row of those that are left has the entry where one of all does

@@ -1,6 +1,6 @@
 use Rattle.std.proofs.Common.{◌∙◌, ◌||◌, ap, ap₂}
 use Rattle.std.specs.List.{list_any}
-use Rattle.axioms.specs.Gathered.{is_asked_by_root, is_known_by}
+use Rattle.axioms.specs.inner.Gathered.{is_asked_by_root, is_known_by}
 use Rattle.axioms.proofs.GatherLemmas.{all_known}
 use Rattle.axioms.proofs.gathering.known_features.Goals as goal
 

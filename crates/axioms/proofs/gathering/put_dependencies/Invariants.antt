@@ -1,7 +1,7 @@
 use Rattle.std.proofs.Common.{◌≡◌, ◌||◌, ℕ, List, take}
 use Rattle.features.specs.Views.{dependency_views}
-use Rattle.axioms.specs.Gathered.{some_asks_by}
-use Rattle.axioms.specs.Pairs.{has_pair}
+use Rattle.axioms.specs.inner.Gathered.{some_asks_by}
+use Rattle.axioms.specs.inner.Pairs.{has_pair}
 use Rattle.axioms.proofs.gathering.put_dependencies.Given as goal
 
 -- what the dependencies so far ask for is there

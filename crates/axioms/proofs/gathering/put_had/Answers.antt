@@ -2,7 +2,7 @@ use Rattle.std.proofs.Common.{◌≤◌, sym, subst}
 use Rattle.model.specs.Content.{Candidate, candidates_of}
 use Rattle.model.specs.Summary.{has_feature, same_text}
 use Rattle.catalogue.specs.Stores.{rows_by_name}
-use Rattle.axioms.specs.Pairs.{has_pair}
+use Rattle.axioms.specs.inner.Pairs.{has_pair}
 use Rattle.axioms.proofs.Featured.{counted}
 use Rattle.axioms.proofs.GatherLemmas.{place_more, places_end}
 use Rattle.axioms.proofs.gathering.put_had.Goals as goal

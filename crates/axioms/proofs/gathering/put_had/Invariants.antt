@@ -3,8 +3,8 @@ use Rattle.std.specs.List.{list_any}
 use Rattle.model.specs.Content.{Candidate, candidates_of}
 use Rattle.model.specs.Summary.{has_feature, same_text}
 use Rattle.catalogue.specs.Stores.{rows_by_name}
-use Rattle.axioms.specs.Gathered.{is_had}
-use Rattle.axioms.specs.Pairs.{has_pair}
+use Rattle.axioms.specs.inner.Gathered.{is_had}
+use Rattle.axioms.specs.inner.Pairs.{has_pair}
 use Rattle.axioms.proofs.gathering.put_had.Given as goal
 
 -- with the features of the candidates that are left, those of all are there

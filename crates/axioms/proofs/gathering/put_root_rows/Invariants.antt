@@ -1,8 +1,8 @@
 use Rattle.std.proofs.Common.{◌≡◌, ◌||◌, ℕ, List}
 use Rattle.std.specs.List.{list_any}
-use Rattle.features.specs.Tables.{rows_of}
-use Rattle.axioms.specs.Asking.{row_names}
-use Rattle.axioms.specs.Pairs.{has_pair}
+use Rattle.features.specs.inner.Tables.{rows_of}
+use Rattle.axioms.specs.inner.Asking.{row_names}
+use Rattle.axioms.specs.inner.Pairs.{has_pair}
 use Rattle.axioms.proofs.gathering.put_root_rows.Given as goal
 
 -- with what the rows that are left ask for, what all ask for is there

@@ -2,11 +2,11 @@ use Rattle.std.proofs.Common.{rules, ◌≡◌, ◌∷◌, ◌||◌, List, ℕ, 
 use Rattle.std.specs.List.{list_any}
 use Rattle.std.specs.declared.alloc.Global.{Global}
 use Rattle.features.specs.EntryViews.{entry_views}
-use Rattle.features.specs.Tables.{rows_of}
+use Rattle.features.specs.inner.Tables.{rows_of}
 use Rattle.features.specs.declared.entry.Entry.{Entry}
 use Rattle.refutations.specs.Causes.{asks_for}
-use Rattle.axioms.specs.Asking.{row_may_ask}
-use Rattle.axioms.specs.Pairs.{has_pair}
+use Rattle.axioms.specs.inner.Asking.{row_may_ask}
+use Rattle.axioms.specs.inner.Pairs.{has_pair}
 use Rattle.axioms.proofs.GatherLemmas.{may_ask_is, one_more}
 use Rattle.axioms.proofs.gathering.put_rows.Goals as goal
 

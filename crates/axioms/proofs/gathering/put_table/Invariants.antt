@@ -1,8 +1,8 @@
 use Rattle.std.proofs.Common.{◌≡◌, ◌||◌, ℕ, List}
 use Rattle.std.specs.List.{list_any}
-use Rattle.features.specs.Tables.{rows_of}
+use Rattle.features.specs.inner.Tables.{rows_of}
 use Rattle.refutations.specs.Causes.{same_pair}
-use Rattle.axioms.specs.Pairs.{has_pair}
+use Rattle.axioms.specs.inner.Pairs.{has_pair}
 use Rattle.axioms.proofs.gathering.put_table.Given as goal
 
 -- with the features of the rows that are left, those of all are there

@@ -3,7 +3,7 @@ use Rattle.std.specs.Borrow.{Bor}
 use Rattle.semver.specs.Identifiers.{parts_of}
 use Rattle.catalogue.specs.Views.{said_by}
 use Rattle.catalogue.specs.declared.candidate.Candidate.{Candidate}
-use Rattle.axioms.specs.Gathered.{is_asked_by_version}
+use Rattle.axioms.specs.inner.Gathered.{is_asked_by_version}
 use Rattle.lookups.proofs.Brought.{is_brought, none_brought}
 use Rattle.axioms.proofs.GatherLemmas.{adds_none, adds_ok, nothing_asks}
 use Rattle.axioms.proofs.gathering.put_version.Goals as goal

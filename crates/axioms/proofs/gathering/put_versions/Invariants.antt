@@ -1,8 +1,8 @@
 use Rattle.std.proofs.Common.{◌≡◌, ◌||◌, ℕ, List, take}
 use Rattle.std.specs.List.{list_any}
 use Rattle.semver.specs.Identifiers.{parts_of}
-use Rattle.axioms.specs.Gathered.{brings_in, is_asked_by_version}
-use Rattle.axioms.specs.Pairs.{has_pair}
+use Rattle.axioms.specs.inner.Gathered.{brings_in, is_asked_by_version}
+use Rattle.axioms.specs.inner.Pairs.{has_pair}
 use Rattle.axioms.proofs.gathering.put_versions.Given as goal
 
 -- what the versions so far ask for is there

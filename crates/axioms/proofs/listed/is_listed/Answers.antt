@@ -4,8 +4,8 @@ use Rattle.features.specs.Views.{dependency_view}
 use Rattle.features.specs.declared.dependency.DependencyParts.{DependencyParts}
 use Rattle.model.specs.Optional.{passes}
 use Rattle.model.specs.Summary.{Dependency}
-use Rattle.axioms.specs.Listed.{Numbered}
-use Rattle.axioms.specs.Pairs.{has_pair}
+use Rattle.axioms.specs.inner.Listed.{Numbered}
+use Rattle.axioms.specs.inner.Pairs.{has_pair}
 use Rattle.axioms.proofs.listed.is_listed.Goals as goal
 
 pub returns-in-Some-get : goal.returns-in-Some-get

@@ -3,11 +3,11 @@ use Rattle.std.specs.List.{list_any}
 use Rattle.features.specs.EntryViews.{entry_views}
 use Rattle.refutations.specs.Causes.{same_entry}
 use Rattle.vertices.specs.declared.vertex.OwnerRef.TheVariants.{Version}
-use Rattle.lookups.specs.Numbers.{Row}
+use Rattle.lookups.specs.inner.Numbers.{Row}
 use Rattle.lookups.proofs.Kept.{put_of_row}
-use Rattle.axioms.specs.Entries.{named_view}
-use Rattle.axioms.specs.GatheredViews.{problem_of}
-use Rattle.axioms.specs.Listed.{AreOfRow}
+use Rattle.axioms.specs.inner.Entries.{named_view}
+use Rattle.axioms.specs.inner.GatheredViews.{problem_of}
+use Rattle.axioms.specs.inner.Listed.{AreOfRow}
 use Rattle.axioms.proofs.EntryLemmas.{all_added}
 use Rattle.axioms.proofs.listed.keep_row.Goals as goal
 

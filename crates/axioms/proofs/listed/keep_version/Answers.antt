@@ -4,9 +4,9 @@ use Rattle.features.specs.Views.{brings_view}
 use Rattle.model.specs.Summary.{Summary}
 use Rattle.vertices.specs.declared.vertex.OwnerRef.TheVariants.{Version}
 use Rattle.lookups.proofs.Kept.{put_of}
-use Rattle.axioms.specs.Entries.{named_view, row_has}
-use Rattle.axioms.specs.GatheredViews.{problem_of}
-use Rattle.axioms.specs.Listed.{AreOfOwner}
+use Rattle.axioms.specs.inner.Entries.{named_view, row_has}
+use Rattle.axioms.specs.inner.GatheredViews.{problem_of}
+use Rattle.axioms.specs.inner.Listed.{AreOfOwner}
 use Rattle.axioms.proofs.EntryLemmas.{all_added}
 use Rattle.axioms.proofs.listed.keep_version.Goals as goal
 

@@ -1,6 +1,6 @@
 use Rattle.std.proofs.Common.{sym, ◌∙◌}
 use Rattle.vertices.specs.declared.vertex.OwnerRef.TheVariants.{Version}
-use Rattle.lookups.specs.Numbers.{Row}
+use Rattle.lookups.specs.inner.Numbers.{Row}
 use Rattle.axioms.proofs.listed.row_has.Goals as goal
 
 pub returns-in-Some : goal.returns-in-Some

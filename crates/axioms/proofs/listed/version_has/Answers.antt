@@ -4,8 +4,8 @@ use Rattle.features.specs.Views.{brings_view, summary_view}
 use Rattle.model.specs.Vertices.{owner_brings, version_of}
 use Rattle.refutations.specs.Causes.{table_of_owner}
 use Rattle.vertices.specs.declared.vertex.OwnerRef.TheVariants.{Version}
-use Rattle.axioms.specs.Entries.{named_view}
-use Rattle.axioms.specs.GatheredViews.{problem_of}
+use Rattle.axioms.specs.inner.Entries.{named_view}
+use Rattle.axioms.specs.inner.GatheredViews.{problem_of}
 use Rattle.axioms.proofs.EntryLemmas.{owner_has, rows_have}
 use Rattle.axioms.proofs.listed.version_has.Goals as goal
 

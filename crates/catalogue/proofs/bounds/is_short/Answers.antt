@@ -2,7 +2,7 @@ use Rattle.std.proofs.Common.{sym, ap, ◌∙◌}
 use Rattle.std.specs.List.{list_any}
 use Rattle.semver.specs.Identifiers.{comparator_view, parts_of}
 use Rattle.model.proofs.Mapped.{any-map}
-use Rattle.catalogue.specs.Bounds.{is_below}
+use Rattle.catalogue.specs.inner.Bounds.{is_below}
 use Rattle.catalogue.proofs.bounds.is_short.Goals as goal
 
 pub returns : goal.returns

@@ -1,6 +1,6 @@
 use Rattle.std.proofs.Common.{◌≡◌, ◌*◌, drop}
 use Rattle.model.specs.Summary.{same_text}
-use Rattle.catalogue.specs.Checksums.{digits_of}
+use Rattle.catalogue.specs.inner.Checksums.{digits_of}
 use Rattle.catalogue.proofs.checksum.are_digits_of.Given as goal
 
 -- the digits that are left are the same where all are

@@ -1,6 +1,6 @@
 use Rattle.std.proofs.Common.{◌≡◌, ◌+◌, ◌*◌, ◌/◌, ◌%◌, refl, ap, arith, ◌∙◌}
 use Rattle.std.proofs.lemmas.List.{length-set}
-use Rattle.catalogue.specs.Checksums.{digit, digits_of}
+use Rattle.catalogue.specs.inner.Checksums.{digit, digits_of}
 use Rattle.catalogue.proofs.Digits.{digit-at, read-more, all-read}
 use Rattle.catalogue.proofs.checksum.bytes_in.Goals as goal
 

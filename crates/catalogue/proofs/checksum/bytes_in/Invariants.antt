@@ -1,5 +1,5 @@
 use Rattle.std.proofs.Common.{◌≡◌, ◌*◌, length, take}
-use Rattle.catalogue.specs.Checksums.{digits_of}
+use Rattle.catalogue.specs.inner.Checksums.{digits_of}
 use Rattle.catalogue.proofs.checksum.bytes_in.Given as goal
 
 -- the bytes so far are written in the digits so far

@@ -1,5 +1,5 @@
 use Rattle.std.proofs.Common.{arith}
-use Rattle.catalogue.specs.Checksums.{digits_of}
+use Rattle.catalogue.specs.inner.Checksums.{digits_of}
 use Rattle.catalogue.proofs.Digits.{written-more}
 use Rattle.catalogue.proofs.checksum.digits_of.Goals as goal
 

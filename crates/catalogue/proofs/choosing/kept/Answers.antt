@@ -9,7 +9,8 @@ use Rattle.catalogue.specs.Runs.{as_record}
 use Rattle.catalogue.specs.Ranks.{rank_of}
 use Rattle.catalogue.specs.Ranks.{records}
 use Rattle.catalogue.specs.Views.{AreRising, AreKnown, BringValid}
-use Rattle.catalogue.proofs.Chosen.{Brings, Knows, chosen-yes, chosen-no, chosen-done, chosen-all, chosen-rise, read-snoc, rank-is}
+use Rattle.catalogue.proofs.Chosen.{Brings, Knows, chosen-yes, chosen-no, chosen-done, chosen-all, chosen-rise}
+use Rattle.catalogue.proofs.Chosen.{read-snoc, rank-is}
 use Rattle.catalogue.proofs.Chosen.{none-left}
 use Rattle.catalogue.proofs.choosing.kept.Goals as goal
 

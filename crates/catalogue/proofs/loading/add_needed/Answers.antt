@@ -4,7 +4,7 @@ use Rattle.model.specs.Summary.{same_text}
 use Rattle.features.specs.Views.{dependency_views}
 use Rattle.catalogue.specs.Loads.{needs_of}
 use Rattle.catalogue.specs.Runs.{meant_by}
-use Rattle.catalogue.specs.Names.{insert_all}
+use Rattle.catalogue.specs.inner.Names.{insert_all}
 use Rattle.catalogue.specs.declared.candidate.Candidate.{Candidate}
 use Rattle.catalogue.proofs.NameLaws.{put-all, put-more}
 use Rattle.catalogue.proofs.loading.add_needed.Goals as goal

@@ -1,7 +1,7 @@
 use Rattle.std.proofs.Common.{◌≡◌, ℕ, List, drop, true}
 use Rattle.std.specs.List.{list_any}
 use Rattle.features.specs.Views.{dependency_views}
-use Rattle.catalogue.specs.Names.{insert_all}
+use Rattle.catalogue.specs.inner.Names.{insert_all}
 use Rattle.model.specs.Summary.{same_text}
 use Rattle.catalogue.specs.Loads.{needs_of}
 use Rattle.catalogue.specs.Runs.{meant_by}

@@ -2,7 +2,7 @@ use Rattle.std.proofs.Common.{◌≡◌, ℕ, ◌<◌, List, [], length, get_or,
 use Rattle.std.proofs.Common.{ap₂, ◌∙◌, subst}
 use Rattle.std.proofs.lemmas.Option.{slice_get-get_or}
 use Rattle.std.proofs.lemmas.Result.{err_from_is_err_and}
-use Rattle.catalogue.specs.Names.{insert_all}
+use Rattle.catalogue.specs.inner.Names.{insert_all}
 use Rattle.classes.specs.RustVersions.{rust_version_view}
 use Rattle.features.specs.Views.{dependency_views}
 use Rattle.index_reader.specs.Views.{skip_view}

@@ -1,5 +1,5 @@
 use Rattle.std.proofs.Common.{◌≡◌, drop}
-use Rattle.lockfile.specs.Views.{package_views}
+use Rattle.lockfile.specs.inner.Views.{package_views}
 use Rattle.catalogue.specs.Loads.{first_changed}
 use Rattle.catalogue.proofs.loading.check_packages.Given as goal
 

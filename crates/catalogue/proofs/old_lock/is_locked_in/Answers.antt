@@ -3,7 +3,7 @@ use Rattle.std.proofs.lemmas.Fn.{always_returns_same}
 use Rattle.semver.specs.Identifiers.{parts_of}
 use Rattle.model.specs.Candidates.{is_locked}
 use Rattle.model.specs.Order.{package_cmp}
-use Rattle.lockfile.specs.Views.{package_view}
+use Rattle.lockfile.specs.inner.Views.{package_view}
 use Rattle.catalogue.proofs.Alike.{wanted, search_locks}
 use Rattle.catalogue.proofs.old_lock.is_locked_in.Goals as goal
 

@@ -2,10 +2,10 @@ use Rattle.std.proofs.Common.{◌≡◌, ◌∙◌, ◌+◌, ◌++◌, ◌∷◌
 use Rattle.std.specs.List.{filter}
 use Rattle.std.proofs.lemmas.List.{append_assoc, drop_more}
 use Rattle.catalogue.specs.Loads.{packages_of_old}
-use Rattle.lockfile.specs.Views.{package_view, package_views}
+use Rattle.lockfile.specs.inner.Views.{package_view, package_views}
 use Rattle.model.specs.Content as model
-use Rattle.changes.specs.Changed.{is_one}
-use Rattle.changes.specs.Views.{lent_views}
+use Rattle.changes.specs.inner.Changed.{is_one}
+use Rattle.changes.specs.inner.Views.{lent_views}
 use Rattle.changes.proofs.Those.{filter_first}
 use Rattle.changes.proofs.changing.those.Goals as goal
 

@@ -1,8 +1,8 @@
 use Rattle.std.proofs.Common.{◌≡◌, ◌++◌, drop}
 use Rattle.catalogue.specs.Loads.{packages_of_old}
-use Rattle.lockfile.specs.Views.{package_views}
-use Rattle.changes.specs.Changed.{those}
-use Rattle.changes.specs.Views.{lent_views}
+use Rattle.lockfile.specs.inner.Views.{package_views}
+use Rattle.changes.specs.inner.Changed.{those}
+use Rattle.changes.specs.inner.Views.{lent_views}
 use Rattle.changes.proofs.changing.those.Given as goal
 
 -- those so far, with those of the packages that are left, are all

@@ -1,10 +1,10 @@
 use Rattle.std.proofs.Common.{◌≡◌, ◌∙◌, Bool, List, ap, length, map, option_map, subst, subst₂, sym}
 use Rattle.std.proofs.lemmas.Result.{IfOk-weaker}
 use Rattle.semver.specs.Identifiers.{parts_of}
-use Rattle.facts.specs.Chains.{AreBelow}
+use Rattle.facts.specs.inner.Chains.{AreBelow}
 use Rattle.model.specs.Content.{Package}
-use Rattle.changes.specs.OnWays.{AreBetween, AreOnWays, all_pairs, rules_ahead, rules_back}
-use Rattle.changes.specs.Ways.{is_meant, is_own}
+use Rattle.changes.specs.inner.OnWays.{AreBetween, AreOnWays, all_pairs, rules_ahead, rules_back}
+use Rattle.changes.specs.inner.Ways.{is_meant, is_own}
 use Rattle.changes.proofs.BothWays.{ahead_below, back_below, on_ways_by}
 use Rattle.changes.proofs.on_ways.dependencies_to.Goals as goal
 

@@ -1,6 +1,6 @@
 use Rattle.std.proofs.Common.{◌≡◌, take}
 use Rattle.std.specs.List.{filter}
-use Rattle.changes.specs.OnWays.{are_both}
+use Rattle.changes.specs.inner.OnWays.{are_both}
 use Rattle.changes.proofs.on_ways.marked_pairs.Given as goal
 
 abbrev pub invariant-pairs : goal.invariant-pairs

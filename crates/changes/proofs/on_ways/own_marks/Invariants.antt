@@ -1,6 +1,6 @@
 use Rattle.std.proofs.Common.{◌≡◌, map, take}
-use Rattle.lockfile.specs.Views.{package_views}
-use Rattle.changes.specs.Ways.{is_own}
+use Rattle.lockfile.specs.inner.Views.{package_views}
+use Rattle.changes.specs.inner.Ways.{is_own}
 use Rattle.changes.proofs.on_ways.own_marks.Given as goal
 
 abbrev pub invariant-packages : goal.invariant-packages

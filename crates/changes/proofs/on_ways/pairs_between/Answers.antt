@@ -1,9 +1,9 @@
 use Rattle.std.proofs.Common.{◌≡◌, ◌↔◌, ◌∙◌, ℕ, Bool, List, true, ap, subst, sym, length}
 use Rattle.std.specs.List.{filter}
 use Rattle.std.proofs.lemmas.Result.{IfOk-weaker}
-use Rattle.facts.specs.Chains.{AreBelow, IsGiven, has}
+use Rattle.facts.specs.inner.Chains.{AreBelow, IsGiven, has}
 use Rattle.facts.specs.declared.rule.Rule.{Rule}
-use Rattle.changes.specs.OnWays.{AreBetween, are_both, rules_ahead, rules_back}
+use Rattle.changes.specs.inner.OnWays.{AreBetween, are_both, rules_ahead, rules_back}
 use Rattle.changes.proofs.on_ways.pairs_between.Goals as goal
 
 pub close-requires : goal.close-requires

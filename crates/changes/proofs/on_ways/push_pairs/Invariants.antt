@@ -1,5 +1,5 @@
 use Rattle.std.proofs.Common.{◌≡◌, ◌++◌, take}
-use Rattle.changes.specs.OnWays.{pairs_at}
+use Rattle.changes.specs.inner.OnWays.{pairs_at}
 use Rattle.changes.proofs.on_ways.push_pairs.Given as goal
 
 abbrev pub invariant-targets : goal.invariant-targets

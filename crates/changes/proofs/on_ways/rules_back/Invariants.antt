@@ -1,5 +1,5 @@
 use Rattle.std.proofs.Common.{◌≡◌, take}
-use Rattle.changes.specs.OnWays.{rules_back}
+use Rattle.changes.specs.inner.OnWays.{rules_back}
 use Rattle.changes.proofs.on_ways.rules_back.Given as goal
 
 abbrev pub invariant-pairs : goal.invariant-pairs

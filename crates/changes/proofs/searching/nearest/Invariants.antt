@@ -1,9 +1,9 @@
 use Rattle.std.proofs.Common.{◌≡◌, drop, option_map}
 use Rattle.std.specs.List.{find}
 use Rattle.semver.specs.Identifiers.{parts_of}
-use Rattle.lockfile.specs.Views.{package_views}
-use Rattle.changes.specs.Searches.{is_end}
-use Rattle.changes.specs.Ways.{is_meant}
+use Rattle.lockfile.specs.inner.Views.{package_views}
+use Rattle.changes.specs.inner.Searches.{is_end}
+use Rattle.changes.specs.inner.Ways.{is_meant}
 use Rattle.changes.proofs.searching.nearest.Given as goal
 
 -- the first among the visits that are left is the first of all

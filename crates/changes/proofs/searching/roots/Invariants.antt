@@ -1,7 +1,7 @@
 use Rattle.std.proofs.Common.{◌≡◌}
-use Rattle.lockfile.specs.Views.{package_views}
-use Rattle.changes.specs.Searches.{places_below}
-use Rattle.changes.specs.Ways.{is_own}
+use Rattle.lockfile.specs.inner.Views.{package_views}
+use Rattle.changes.specs.inner.Searches.{places_below}
+use Rattle.changes.specs.inner.Ways.{is_own}
 use Rattle.changes.proofs.searching.roots.Given as goal
 
 abbrev pub invariant-places : goal.invariant-places

@@ -1,10 +1,10 @@
 use Rattle.std.proofs.Common.{◌≡◌, ◌∙◌, Bool, List, Some, ap, option_map, subst, sym}
 use Rattle.std.specs.List.{find}
 use Rattle.semver.specs.Identifiers.{parts_of}
-use Rattle.lockfile.specs.Views.{package_views}
+use Rattle.lockfile.specs.inner.Views.{package_views}
 use Rattle.model.specs.Content.{Content, Package}
-use Rattle.changes.specs.Searches.{AreLed, IsBehind, IsLed, is_end}
-use Rattle.changes.specs.Ways.{is_meant, is_own}
+use Rattle.changes.specs.inner.Searches.{AreLed, IsBehind, IsLed, is_end}
+use Rattle.changes.specs.inner.Ways.{is_meant, is_own}
 use Rattle.changes.specs.declared.searching.Visit.{Visit}
 use Rattle.changes.proofs.Leading.{behind_from_led}
 use Rattle.changes.proofs.Searched.{first_passes, found, none_found}

@@ -1,5 +1,5 @@
 use Rattle.std.proofs.Common.{◌≡◌, drop, length}
-use Rattle.changes.specs.Searches.{seen_with, visited}
+use Rattle.changes.specs.inner.Searches.{seen_with, visited}
 use Rattle.changes.proofs.searching.visit_all.Given as goal
 
 -- the visits of the places that are left, after those so far, are all

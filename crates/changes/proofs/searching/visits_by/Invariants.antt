@@ -1,7 +1,7 @@
 use Rattle.std.proofs.Common.{◌-◌, length}
-use Rattle.lockfile.specs.Views.{package_views}
-use Rattle.changes.specs.Searches.{AreBegun, IsSearching}
-use Rattle.changes.specs.Ways.{is_own}
+use Rattle.lockfile.specs.inner.Views.{package_views}
+use Rattle.changes.specs.inner.Searches.{AreBegun, IsSearching}
+use Rattle.changes.specs.inner.Ways.{is_own}
 use Rattle.changes.proofs.searching.visits_by.Given as goal
 
 abbrev pub invariant-visits : goal.invariant-visits

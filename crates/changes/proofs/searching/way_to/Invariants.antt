@@ -1,7 +1,7 @@
 use Rattle.std.proofs.Common.{◌≡◌, ◌+◌, Bool, true, length, reverse}
 use Rattle.model.specs.Content.{Content, Package}
-use Rattle.changes.specs.Searches.{AreBehind, AreLed, IsBehind, IsLed, is_end}
-use Rattle.changes.specs.Ways.{leads}
+use Rattle.changes.specs.inner.Searches.{AreBehind, AreLed, IsBehind, IsLed, is_end}
+use Rattle.changes.specs.inner.Ways.{leads}
 use Rattle.changes.proofs.searching.way_to.Given as goal
 
 -- from the visit that was come back to, the places so far lead on to the end

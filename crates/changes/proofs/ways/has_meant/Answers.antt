@@ -1,8 +1,8 @@
 use Rattle.std.proofs.Common.{◌∙◌, option_map, sym}
 use Rattle.model.proofs.Mapped.{any-map}
 use Rattle.semver.specs.Identifiers.{parts_of}
-use Rattle.lockfile.specs.Views.{package_view}
-use Rattle.changes.specs.Ways.{is_meant}
+use Rattle.lockfile.specs.inner.Views.{package_view}
+use Rattle.changes.specs.inner.Ways.{is_meant}
 use Rattle.changes.proofs.ways.has_meant.Goals as goal
 
 pub returns : goal.returns

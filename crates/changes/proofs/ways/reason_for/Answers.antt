@@ -2,9 +2,9 @@ use Rattle.std.proofs.Common.{rules, ◌≡◌, ℕ, Bool, true, None, Option, V
 use Rattle.std.specs.List.{list_any}
 use Rattle.std.specs.declared.alloc.Global.{Global}
 use Rattle.semver.specs.Identifiers.{parts_of}
-use Rattle.lockfile.specs.Views.{package_views}
+use Rattle.lockfile.specs.inner.Views.{package_views}
 use Rattle.model.specs.Content.{Package}
-use Rattle.changes.specs.Ways.{HasNoWay, IsFound, is_meant, is_own}
+use Rattle.changes.specs.inner.Ways.{HasNoWay, IsFound, is_meant, is_own}
 use Rattle.changes.proofs.ways.reason_for.Goals as goal
 
 pub returns-in-None : goal.returns-in-None

@@ -1,7 +1,7 @@
 use Rattle.std.proofs.Common.{◌∙◌, sym, ap}
 use Rattle.std.proofs.lemmas.Result.{IfOk-weaker}
 use Rattle.catalogue.specs.Problems.{problem_in}
-use Rattle.checker.specs.Answers.{check_view}
+use Rattle.checker.specs.inner.Answers.{check_view}
 use Rattle.checker.proofs.RefusedLaws.{proves_where, refuses_where}
 use Rattle.checker.proofs.StepLaws.{are_plain}
 use Rattle.checker.proofs.checking.check.Goals as goal

@@ -1,8 +1,8 @@
 use Rattle.std.proofs.Common.{◌≡◌, ◌∙◌, Some, ap, false, rules, sym, take}
-use Rattle.refutations.specs.Checks.{is_step}
-use Rattle.axioms.specs.GatheredViews.{problem_of}
-use Rattle.derivations.specs.Tables.{step_at, steps_at, terms_at}
-use Rattle.checker.specs.Ready.{tables_of}
+use Rattle.refutations.specs.inner.Checks.{is_step}
+use Rattle.axioms.specs.inner.GatheredViews.{problem_of}
+use Rattle.derivations.specs.inner.Tables.{step_at, steps_at, terms_at}
+use Rattle.checker.specs.inner.Ready.{tables_of}
 use Rattle.checker.proofs.StepLaws.{refused_at}
 use Rattle.checker.proofs.checking.first_refused.Goals as goal
 

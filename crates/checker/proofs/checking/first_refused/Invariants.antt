@@ -1,8 +1,8 @@
 use Rattle.std.proofs.Common.{◌≡◌, [], take, drop}
-use Rattle.refutations.specs.Checks.{first_refused}
-use Rattle.axioms.specs.GatheredViews.{problem_of}
-use Rattle.derivations.specs.Tables.{steps_at}
-use Rattle.checker.specs.Ready.{tables_of}
+use Rattle.refutations.specs.inner.Checks.{first_refused}
+use Rattle.axioms.specs.inner.GatheredViews.{problem_of}
+use Rattle.derivations.specs.inner.Tables.{steps_at}
+use Rattle.checker.specs.inner.Ready.{tables_of}
 use Rattle.checker.proofs.checking.first_refused.Given as goal
 
 -- none of the steps so far is refused

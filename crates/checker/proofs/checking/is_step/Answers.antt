@@ -1,8 +1,8 @@
 use Rattle.std.proofs.Common.{◌∙◌, ap}
-use Rattle.refutations.specs.Terms.{is_combination}
-use Rattle.axioms.specs.GatheredViews.{problem_of}
-use Rattle.derivations.specs.Tables.{terms_at, vertex_at}
-use Rattle.checker.specs.Ready.{tables_of}
+use Rattle.refutations.specs.inner.Terms.{is_combination}
+use Rattle.axioms.specs.inner.GatheredViews.{problem_of}
+use Rattle.derivations.specs.inner.Tables.{terms_at, vertex_at}
+use Rattle.checker.specs.inner.Ready.{tables_of}
 use Rattle.checker.proofs.StepLaws.{combined_step, lent}
 use Rattle.checker.proofs.checking.is_step.Goals as goal
 

@@ -1,5 +1,5 @@
 use Rattle.std.proofs.Common.{suc, ◌-◌, ◌≤◌, length, map, string_bytes}
-use Rattle.checker.specs.Names.{AreTexts}
+use Rattle.checker.specs.inner.Names.{AreTexts}
 use Rattle.checker.proofs.naming.add_texts.Given as goal
 
 abbrev pub invariant-vertices : goal.invariant-vertices

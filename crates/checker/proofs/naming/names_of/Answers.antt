@@ -1,6 +1,6 @@
 use Rattle.std.proofs.Common.{◌∙◌, subst, take_all}
 use Rattle.std.proofs.lemmas.Result.{IfOk-weaker}
-use Rattle.checker.specs.Naming.{AreNamedSteps}
+use Rattle.checker.specs.inner.Naming.{AreNamedSteps}
 use Rattle.checker.proofs.NamingLaws.{all_ready}
 use Rattle.checker.proofs.naming.names_of.Goals as goal
 

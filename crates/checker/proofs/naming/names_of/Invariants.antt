@@ -1,5 +1,5 @@
 use Rattle.std.proofs.Common.{take}
-use Rattle.checker.specs.Naming.{AreNamedSteps, IsNaming}
+use Rattle.checker.specs.inner.Naming.{AreNamedSteps, IsNaming}
 use Rattle.checker.proofs.naming.names_of.Given as goal
 
 abbrev pub invariant-steps : goal.invariant-steps

@@ -1,7 +1,7 @@
 use Rattle.std.proofs.Common.{◌≡◌, take}
-use Rattle.lookups.specs.TermViews.{term_views}
-use Rattle.derivations.specs.Tables.{terms_at}
-use Rattle.checker.specs.Ready.{tables_of}
+use Rattle.lookups.specs.inner.TermViews.{term_views}
+use Rattle.derivations.specs.inner.Tables.{terms_at}
+use Rattle.checker.specs.inner.Ready.{tables_of}
 use Rattle.checker.proofs.preparing.terms_in.Given as goal
 
 abbrev pub invariant-terms : goal.invariant-terms

@@ -1,5 +1,5 @@
 use Rattle.std.proofs.Common.{◌≡◌, map, take, string_bytes}
-use Rattle.checker.specs.Names.{rank_of}
+use Rattle.checker.specs.inner.Names.{rank_of}
 use Rattle.checker.proofs.ranks.ranks_in.Given as goal
 
 abbrev pub invariant-texts : goal.invariant-texts

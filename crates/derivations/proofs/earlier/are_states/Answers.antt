@@ -1,6 +1,6 @@
 use Rattle.std.proofs.Common.{◌<◌, arith, get_or, length}
 use Rattle.model.specs.Vertices.{absent}
-use Rattle.vertices.specs.RefViews.{state_ref_view}
+use Rattle.vertices.specs.inner.RefViews.{state_ref_view}
 use Rattle.derivations.proofs.EarlierLaws.{states-next}
 use Rattle.derivations.proofs.TableLaws.{found-at}
 use Rattle.derivations.proofs.earlier.are_states.Goals as goal

@@ -1,7 +1,7 @@
 use Rattle.std.proofs.Common.{drop}
 use Rattle.trees.specs.Trees.{trees_view}
-use Rattle.derivations.specs.Earlier.{HaveTexts}
-use Rattle.derivations.specs.Tables.{states_at}
+use Rattle.derivations.specs.inner.Earlier.{HaveTexts}
+use Rattle.derivations.specs.inner.Tables.{states_at}
 use Rattle.derivations.proofs.earlier.have_texts.Given as goal
 
 -- what is left has its texts just where all has

@@ -2,8 +2,8 @@ use Rattle.std.proofs.Common.{◌≡◌, sym, subst, ◌∙◌}
 use Rattle.trees.specs.Trees.{tree_view}
 use Rattle.model.proofs.Same.{text-same}
 use Rattle.vertices.specs.Texts.{vertex_text}
-use Rattle.derivations.specs.Earlier.{AreWritten}
-use Rattle.derivations.specs.Tables.{states_at, term_at, vertex_at}
+use Rattle.derivations.specs.inner.Earlier.{AreWritten}
+use Rattle.derivations.specs.inner.Tables.{states_at, term_at, vertex_at}
 use Rattle.derivations.proofs.EarlierLaws.{same-unless, term-known}
 use Rattle.derivations.proofs.earlier.known.Goals as goal
 

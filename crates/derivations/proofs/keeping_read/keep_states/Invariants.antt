@@ -1,6 +1,6 @@
 use Rattle.std.proofs.Common.{◌≡◌, ◌++◌, length}
 use Rattle.std.specs.Vec.Iter.{into_iter_items, into_iter_len}
-use Rattle.derivations.specs.Tables.{IsGrown, AreStatesOf, states_at}
+use Rattle.derivations.specs.inner.Tables.{IsGrown, AreStatesOf, states_at}
 use Rattle.vertices.specs.Views.{state_views}
 use Rattle.derivations.proofs.keeping_read.keep_states.Given as goal
 

@@ -1,6 +1,6 @@
 use Rattle.std.proofs.Common.{ap, ◌∙◌}
-use Rattle.vertices.specs.RefViews.{state_ref_views}
-use Rattle.derivations.specs.Named.{states_in_order}
+use Rattle.vertices.specs.inner.RefViews.{state_ref_views}
+use Rattle.derivations.specs.inner.Named.{states_in_order}
 use Rattle.derivations.proofs.TableLaws.{grown-trans, whole-term}
 use Rattle.derivations.proofs.keeping_spelt.keep_set.Goals as goal
 

@@ -1,6 +1,6 @@
 use Rattle.std.proofs.Common.{◌≡◌, ◌+◌, ◌∷◌, length, arith, ap}
 use Rattle.std.specs.Vec.Iter.{into_iter_items, into_iter_len}
-use Rattle.derivations.specs.Named.{set_in_order_view, set_in_order_views}
+use Rattle.derivations.specs.inner.Named.{set_in_order_view, set_in_order_views}
 use Rattle.derivations.proofs.EarlierLaws.{earlier-kept}
 use Rattle.derivations.proofs.TableLaws.{grown-trans, more-terms}
 use Rattle.derivations.proofs.keeping_spelt.keep_sets.Goals as goal

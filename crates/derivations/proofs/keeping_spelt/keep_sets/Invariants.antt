@@ -1,7 +1,7 @@
 use Rattle.std.proofs.Common.{◌≡◌, ◌++◌, length}
 use Rattle.std.specs.Vec.Iter.{into_iter_items, into_iter_len}
-use Rattle.derivations.specs.Tables.{IsGrown, AreTermsOf, terms_at}
-use Rattle.derivations.specs.Named.{set_in_order_views}
+use Rattle.derivations.specs.inner.Tables.{IsGrown, AreTermsOf, terms_at}
+use Rattle.derivations.specs.inner.Named.{set_in_order_views}
 use Rattle.derivations.proofs.keeping_spelt.keep_sets.Given as goal
 
 -- the terms so far stand for those before the ones that are left

@@ -1,6 +1,6 @@
 use Rattle.std.proofs.Common.{◌≡◌, ◌+◌, ◌++◌, ◌∷◌, [], append-nil, ap, ap₂, sym, take, ◌∙◌}
 use Rattle.std.proofs.lemmas.List.{map_more}
-use Rattle.vertices.specs.RefViews.{state_ref_view, state_ref_views}
+use Rattle.vertices.specs.inner.RefViews.{state_ref_view, state_ref_views}
 use Rattle.derivations.proofs.TableLaws.{grown-trans, more-states}
 use Rattle.derivations.proofs.keeping_spelt.keep_states.Goals as goal
 

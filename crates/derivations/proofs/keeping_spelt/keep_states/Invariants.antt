@@ -1,6 +1,6 @@
 use Rattle.std.proofs.Common.{◌≡◌, take}
-use Rattle.derivations.specs.Tables.{IsGrown, AreStatesOf, states_at}
-use Rattle.vertices.specs.RefViews.{state_ref_views}
+use Rattle.derivations.specs.inner.Tables.{IsGrown, AreStatesOf, states_at}
+use Rattle.vertices.specs.inner.RefViews.{state_ref_views}
 use Rattle.derivations.proofs.keeping_spelt.keep_states.Given as goal
 
 -- the numbers so far stand for the states so far

@@ -3,7 +3,7 @@ use Rattle.std.specs.Ordering.{is_lt}
 use Rattle.std.proofs.lemmas.Cmp.{is_lt_index}
 use Rattle.std.proofs.lemmas.List.Sorted.{answers_always, ranks_by}
 use Rattle.derivations.specs.Steps.{written_cmp}
-use Rattle.derivations.specs.StepViews.{written_view}
+use Rattle.derivations.specs.inner.StepViews.{written_view}
 use Rattle.derivations.proofs.OrderLaws.{written_total}
 use Rattle.derivations.proofs.Ordered.{ordered-ok, ordered-refused}
 use Rattle.derivations.proofs.line.sorted_terms.Goals as goal

@@ -1,8 +1,8 @@
 use Rattle.std.proofs.Common.{◌≡◌, Ok, length, sym, ap, ◌∙◌, rules}
 use Rattle.trees.specs.Trees.{tree_view}
 use Rattle.derivations.specs.Steps.{step_by, step_of}
-use Rattle.derivations.specs.StepViews.{origin_view}
-use Rattle.derivations.specs.Tables.{terms_at}
+use Rattle.derivations.specs.inner.StepViews.{origin_view}
+use Rattle.derivations.specs.inner.Tables.{terms_at}
 use Rattle.derivations.proofs.EarlierLaws.{step-put}
 use Rattle.derivations.proofs.TableLaws.{kept-terms}
 use Rattle.derivations.proofs.line.step.Goals as goal

@@ -1,7 +1,7 @@
 use Rattle.std.proofs.Common.{sym, ap, subst, ◌∙◌, rules}
 use Rattle.trees.specs.Trees.{tree_view}
 use Rattle.model.specs.Outcome.{◌>>=◌, Faults}
-use Rattle.derivations.specs.Earlier.{term_from}
+use Rattle.derivations.specs.inner.Earlier.{term_from}
 use Rattle.derivations.specs.Lines.{line_wants_memory}
 use Rattle.derivations.specs.Steps.{term_of}
 use Rattle.derivations.proofs.EarlierLaws.{faults-then, term-split, with-text}

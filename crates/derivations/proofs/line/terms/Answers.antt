@@ -1,8 +1,8 @@
 use Rattle.std.proofs.Common.{◌≡◌, Ok, rules}
 use Rattle.derivations.specs.Orders.{ordered}
 use Rattle.derivations.specs.Steps.{terms_of, terms_without_texts, written_cmp}
-use Rattle.derivations.specs.StepViews.{written_views}
-use Rattle.derivations.specs.Tables.{terms_at}
+use Rattle.derivations.specs.inner.StepViews.{written_views}
+use Rattle.derivations.specs.inner.Tables.{terms_at}
 use Rattle.derivations.proofs.EarlierLaws.{sorted-within, texts-dropped}
 use Rattle.derivations.proofs.line.terms.Goals as goal
 

@@ -3,7 +3,7 @@ use Rattle.std.proofs.lemmas.List.{drop_more}
 use Rattle.trees.specs.Trees.{trees_view}
 use Rattle.model.specs.Outcome.{◌>>=◌}
 use Rattle.derivations.specs.Steps.{terms_in}
-use Rattle.derivations.specs.StepViews.{written_view, written_views}
+use Rattle.derivations.specs.inner.StepViews.{written_view, written_views}
 use Rattle.model.proofs.Fronts.{with_front, with_front-next}
 use Rattle.derivations.proofs.TableLaws.{grown-trans}
 use Rattle.derivations.proofs.EarlierLaws.{earlier-kept, more-written}

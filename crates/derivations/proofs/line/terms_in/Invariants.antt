@@ -1,8 +1,8 @@
 use Rattle.std.proofs.Common.{◌≡◌, drop, map}
 use Rattle.trees.specs.Trees.{trees_view}
 use Rattle.derivations.specs.Steps.{terms_in}
-use Rattle.derivations.specs.StepViews.{written_term, written_views}
-use Rattle.derivations.specs.Tables.{AreTermsOf, IsGrown}
+use Rattle.derivations.specs.inner.StepViews.{written_term, written_views}
+use Rattle.derivations.specs.inner.Tables.{AreTermsOf, IsGrown}
 use Rattle.model.proofs.Fronts.{with_front}
 use Rattle.derivations.proofs.line.terms_in.Given as goal
 

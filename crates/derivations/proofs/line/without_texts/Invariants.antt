@@ -1,5 +1,5 @@
 use Rattle.std.proofs.Common.{◌≡◌, map, take}
-use Rattle.derivations.specs.StepViews.{written_term}
+use Rattle.derivations.specs.inner.StepViews.{written_term}
 use Rattle.derivations.proofs.line.without_texts.Given as goal
 
 abbrev pub invariant-written : goal.invariant-written

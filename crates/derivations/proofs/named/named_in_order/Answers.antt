@@ -2,9 +2,9 @@ use Rattle.std.proofs.Common.{◌≡◌, ap, map, rules, subst, sym, ◌∙◌}
 use Rattle.std.specs.List.{IsDistinct}
 use Rattle.std.specs.Ordering.{eq_by_cmp, is_lt}
 use Rattle.std.proofs.lemmas.List.Sorted.{answers_always, IsPermutation-trans, ranks_by}
-use Rattle.derivations.specs.Building.{ordered_term}
-use Rattle.derivations.specs.Derivations.{term_cmp}
-use Rattle.derivations.specs.Named.{named_views, set_in_order_view, set_in_order_views}
+use Rattle.derivations.specs.inner.Building.{ordered_term}
+use Rattle.derivations.specs.inner.Derivations.{term_cmp}
+use Rattle.derivations.specs.inner.Named.{named_views, set_in_order_view, set_in_order_views}
 use Rattle.model.specs.Sorting.{in_order}
 use Rattle.derivations.proofs.BuildingLaws.{term_total, terms-apart}
 use Rattle.model.proofs.Sorting.{sorted-run}

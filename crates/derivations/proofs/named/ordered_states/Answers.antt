@@ -3,7 +3,7 @@ use Rattle.std.specs.Ordering.{is_lt}
 use Rattle.std.proofs.lemmas.Cmp.{is_lt_index}
 use Rattle.std.proofs.lemmas.List.Sorted.{answers_always, IsPermutation-refl}
 use Rattle.vertices.specs.Orders.{state_cmp}
-use Rattle.vertices.specs.RefViews.{state_ref_view}
+use Rattle.vertices.specs.inner.RefViews.{state_ref_view}
 use Rattle.vertices.proofs.OrderLaws.{state_total}
 use Rattle.model.proofs.Sorting.{ordered-run}
 use Rattle.derivations.proofs.named.ordered_states.Goals as goal

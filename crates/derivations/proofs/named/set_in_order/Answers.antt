@@ -1,4 +1,4 @@
-use Rattle.derivations.specs.Named.{named_view}
+use Rattle.derivations.specs.inner.Named.{named_view}
 use Rattle.derivations.proofs.BuildingLaws.{states-apart}
 use Rattle.derivations.proofs.named.set_in_order.Goals as goal
 

@@ -1,6 +1,6 @@
 use Rattle.std.proofs.Common.{◌≡◌, map, take}
-use Rattle.derivations.specs.Building.{ordered_term}
-use Rattle.derivations.specs.Named.{named_views, set_in_order_views}
+use Rattle.derivations.specs.inner.Building.{ordered_term}
+use Rattle.derivations.specs.inner.Named.{named_views, set_in_order_views}
 use Rattle.derivations.proofs.named.sets_in_order.Given as goal
 
 abbrev pub invariant-terms : goal.invariant-terms

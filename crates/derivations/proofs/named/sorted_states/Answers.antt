@@ -3,7 +3,7 @@ use Rattle.std.specs.List.Sorted.{IsPermutation}
 use Rattle.std.specs.Ordering.{is_lt}
 use Rattle.std.proofs.lemmas.List.Sorted.{answers_always, ranks_by}
 use Rattle.vertices.specs.Orders.{state_cmp}
-use Rattle.vertices.specs.RefViews.{state_ref_view}
+use Rattle.vertices.specs.inner.RefViews.{state_ref_view}
 use Rattle.vertices.proofs.OrderLaws.{state_total}
 use Rattle.model.proofs.Sorting.{sorted-run}
 use Rattle.derivations.proofs.named.sorted_states.Goals as goal

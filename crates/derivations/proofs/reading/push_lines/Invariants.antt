@@ -1,7 +1,7 @@
 use Rattle.std.proofs.Common.{◌≡◌, ◌+◌, map, drop}
-use Rattle.derivations.specs.Earlier.{IsReading}
+use Rattle.derivations.specs.inner.Earlier.{IsReading}
 use Rattle.derivations.specs.Files.{with_lines}
-use Rattle.derivations.specs.Tables.{steps_at}
+use Rattle.derivations.specs.inner.Tables.{steps_at}
 use Rattle.derivations.proofs.reading.push_lines.Given as goal
 
 -- the steps so far, with the lines that are left, are those of all lines

@@ -1,7 +1,7 @@
 use Rattle.std.proofs.Common.{◌++◌, codes, decimal}
 use Rattle.std.proofs.lemmas.Result.{on_ok_weaker}
 use Rattle.vertices.specs.Texts.{vertex_text}
-use Rattle.derivations.specs.Tables.{vertex_at}
+use Rattle.derivations.specs.inner.Tables.{vertex_at}
 use Rattle.derivations.specs.Written.{quoted}
 use Rattle.derivations.proofs.Commas.{in-turn}
 use Rattle.derivations.proofs.writing.push_combination.Goals as goal

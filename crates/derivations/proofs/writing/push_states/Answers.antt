@@ -1,4 +1,4 @@
-use Rattle.derivations.specs.Tables.{state_at}
+use Rattle.derivations.specs.inner.Tables.{state_at}
 use Rattle.derivations.specs.Written.{state_json}
 use Rattle.derivations.proofs.Commas.{all-written}
 use Rattle.derivations.proofs.writing.push_states.Goals as goal

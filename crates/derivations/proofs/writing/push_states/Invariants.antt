@@ -1,5 +1,5 @@
 use Rattle.std.proofs.Common.{◌≡◌, ◌++◌, drop, false, string_bytes}
-use Rattle.derivations.specs.Tables.{states_at}
+use Rattle.derivations.specs.inner.Tables.{states_at}
 use Rattle.derivations.specs.Written.{state_json}
 use Rattle.derivations.proofs.Commas.{separated}
 use Rattle.derivations.proofs.writing.push_states.Given as goal

@@ -1,4 +1,4 @@
-use Rattle.derivations.specs.Tables.{term_at}
+use Rattle.derivations.specs.inner.Tables.{term_at}
 use Rattle.derivations.specs.Written.{term_json}
 use Rattle.derivations.proofs.Commas.{all-written}
 use Rattle.derivations.proofs.writing.push_terms.Goals as goal

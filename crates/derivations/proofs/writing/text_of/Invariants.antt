@@ -1,5 +1,5 @@
 use Rattle.std.proofs.Common.{◌≡◌, ◌++◌, drop, string_bytes}
-use Rattle.derivations.specs.Tables.{steps_at}
+use Rattle.derivations.specs.inner.Tables.{steps_at}
 use Rattle.derivations.specs.Written.{lines_of}
 use Rattle.derivations.proofs.writing.text_of.Given as goal
 

@@ -1,6 +1,6 @@
 use Rattle.std.proofs.Common.{◌≡◌, rules, ap, ◌∙◌}
 use Rattle.derivations.specs.Files.{derivation_of_bytes}
-use Rattle.derivations.specs.Tables.{steps_at}
+use Rattle.derivations.specs.inner.Tables.{steps_at}
 use Rattle.derivations.specs.Written.{lines_of}
 use Rattle.derivations.proofs.WriteLaws.{written-reads}
 use Rattle.derivations.proofs.writing.write.Goals as goal

@@ -1,7 +1,7 @@
 use Rattle.std.proofs.Common.{◌∙◌, ◌++◌, ap, ap₂}
 use Rattle.std.specs.List.{flat_map}
-use Rattle.numbering.specs.KnownProblem.{problem}
-use Rattle.encoding.specs.Everything.{of_name, of_root}
+use Rattle.numbering.specs.inner.KnownProblem.{problem}
+use Rattle.encoding.specs.inner.Everything.{of_name, of_root}
 use Rattle.encoding.specs.Views.{vertex_views}
 use Rattle.encoding.proofs.Steps.{names_are}
 use Rattle.encoding.proofs.naming.named.Goals as goal

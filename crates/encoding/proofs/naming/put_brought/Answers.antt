@@ -4,9 +4,9 @@ use Rattle.std.proofs.lemmas.Result.{on_ok_weaker}
 use Rattle.semver.specs.Identifiers.{parts_of}
 use Rattle.features.specs.Views.{dependency_views, summary_view}
 use Rattle.model.specs.Vertices.{version_of}
-use Rattle.numbering.specs.KnownProblem.{problem}
-use Rattle.encoding.specs.Everything.{of_dependency, of_table}
-use Rattle.numbering.specs.CausesAt.{each_from}
+use Rattle.numbering.specs.inner.KnownProblem.{problem}
+use Rattle.encoding.specs.inner.Everything.{of_dependency, of_table}
+use Rattle.numbering.specs.inner.CausesAt.{each_from}
 use Rattle.encoding.specs.Views.{vertex_views}
 use Rattle.encoding.proofs.naming.put_brought.Goals as goal
 

@@ -1,6 +1,6 @@
 use Rattle.std.proofs.Common.{◌≡◌, ◌++◌, drop, map}
 use Rattle.semver.specs.Identifiers.{parts_of}
-use Rattle.encoding.specs.Everything.{in_each}
+use Rattle.encoding.specs.inner.Everything.{in_each}
 use Rattle.encoding.specs.Views.{vertex_views}
 use Rattle.encoding.proofs.naming.put_classes.Given as goal
 

@@ -1,8 +1,8 @@
 use Rattle.std.proofs.Common.{◌≡◌, ◌++◌, drop}
-use Rattle.numbering.specs.KnownProblem.{problem}
-use Rattle.vertices.specs.RefViews.{owner_ref_view}
-use Rattle.encoding.specs.Everything.{of_dependency}
-use Rattle.numbering.specs.CausesAt.{each_from}
+use Rattle.numbering.specs.inner.KnownProblem.{problem}
+use Rattle.vertices.specs.inner.RefViews.{owner_ref_view}
+use Rattle.encoding.specs.inner.Everything.{of_dependency}
+use Rattle.numbering.specs.inner.CausesAt.{each_from}
 use Rattle.features.specs.Views.{dependency_views}
 use Rattle.encoding.specs.Views.{vertex_views}
 use Rattle.encoding.proofs.naming.put_dependencies.Given as goal

@@ -1,9 +1,9 @@
 use Rattle.std.proofs.Common.{◌≡◌, ◌++◌, drop}
 use Rattle.semver.specs.Identifiers.{parts_of}
 use Rattle.features.specs.Views.{dependency_views}
-use Rattle.encoding.specs.Everything.{ask_if}
+use Rattle.encoding.specs.inner.Everything.{ask_if}
 use Rattle.encoding.specs.Views.{vertex_views}
-use Rattle.numbering.specs.CausesAt.{each_from}
+use Rattle.numbering.specs.inner.CausesAt.{each_from}
 use Rattle.encoding.proofs.naming.put_each_ask.Given as goal
 
 -- the vertices so far, with those of the dependencies that are left, are all

@@ -4,8 +4,8 @@ use Rattle.std.proofs.lemmas.List.{append_assoc, drop_more}
 use Rattle.features.specs.Views.{dependency_view, dependency_views}
 use Rattle.model.specs.Summary as model
 use Rattle.model.specs.Vertices.{Vertex}
-use Rattle.numbering.specs.KnownProblem.{problem}
-use Rattle.encoding.specs.Everything.{asked_if}
+use Rattle.numbering.specs.inner.KnownProblem.{problem}
+use Rattle.encoding.specs.inner.Everything.{asked_if}
 use Rattle.encoding.specs.Views.{vertex_views}
 use Rattle.encoding.proofs.naming.put_each_asked.Goals as goal
 

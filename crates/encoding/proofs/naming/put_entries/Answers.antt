@@ -6,8 +6,8 @@ use Rattle.semver.specs.Identifiers.{parts_of}
 use Rattle.features.specs.EntryViews.{entry_view, entry_views}
 use Rattle.features.specs.Views.{dependency_views}
 use Rattle.model.specs.Summary as model
-use Rattle.numbering.specs.KnownProblem.{problem}
-use Rattle.encoding.specs.Everything.{of_entry}
+use Rattle.numbering.specs.inner.KnownProblem.{problem}
+use Rattle.encoding.specs.inner.Everything.{of_entry}
 use Rattle.encoding.specs.Views.{vertex_views}
 use Rattle.encoding.proofs.naming.put_entries.Goals as goal
 

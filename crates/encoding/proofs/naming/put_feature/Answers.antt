@@ -7,8 +7,8 @@ use Rattle.features.specs.EntryViews.{entry_views}
 use Rattle.features.specs.Views.{dependency_views, summary_view}
 use Rattle.model.specs.Summary.{Entry, entries_at}
 use Rattle.refutations.specs.Causes.{entries_or_none}
-use Rattle.numbering.specs.KnownProblem.{problem}
-use Rattle.encoding.specs.Everything.{feature_of, of_entry}
+use Rattle.numbering.specs.inner.KnownProblem.{problem}
+use Rattle.encoding.specs.inner.Everything.{feature_of, of_entry}
 use Rattle.encoding.specs.Views.{vertex_views}
 use Rattle.encoding.proofs.Steps.{entries_are}
 use Rattle.encoding.proofs.naming.put_feature.Goals as goal

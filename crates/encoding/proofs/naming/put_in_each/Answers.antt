@@ -1,6 +1,6 @@
 use Rattle.std.proofs.Common.{◌∙◌, ◌++◌, ap}
 use Rattle.std.proofs.lemmas.Result.{on_ok_weaker}
-use Rattle.encoding.specs.Everything.{in_each}
+use Rattle.encoding.specs.inner.Everything.{in_each}
 use Rattle.encoding.specs.Views.{vertex_views}
 use Rattle.encoding.proofs.Steps.{versions_are}
 use Rattle.encoding.proofs.naming.put_in_each.Goals as goal

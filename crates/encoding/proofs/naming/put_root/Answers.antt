@@ -5,10 +5,10 @@ use Rattle.std.proofs.lemmas.Result.{on_ok_weaker}
 use Rattle.features.specs.Views.{dependency_views}
 use Rattle.model.specs.Summary.{Dependency, Table}
 use Rattle.model.specs.Vertices.{Vertex, root, the_root}
-use Rattle.numbering.specs.KnownProblem.{problem}
-use Rattle.vertices.specs.RefViews.{vertex_ref_view}
-use Rattle.encoding.specs.Everything.{asked_for, of_dependency}
-use Rattle.numbering.specs.CausesAt.{each_from}
+use Rattle.numbering.specs.inner.KnownProblem.{problem}
+use Rattle.vertices.specs.inner.RefViews.{vertex_ref_view}
+use Rattle.encoding.specs.inner.Everything.{asked_for, of_dependency}
+use Rattle.numbering.specs.inner.CausesAt.{each_from}
 use Rattle.encoding.specs.Views.{vertex_views}
 use Rattle.encoding.proofs.Steps.{rows_ask, three}
 use Rattle.encoding.proofs.naming.put_root.Goals as goal

@@ -5,8 +5,8 @@ use Rattle.model.specs.Vertices.{Vertex}
 use Rattle.features.specs.EntryViews.{entry_view, entry_views}
 use Rattle.features.specs.Views.{dependency_views}
 use Rattle.model.specs.Summary as model
-use Rattle.numbering.specs.KnownProblem.{problem}
-use Rattle.encoding.specs.Everything.{asked_for}
+use Rattle.numbering.specs.inner.KnownProblem.{problem}
+use Rattle.encoding.specs.inner.Everything.{asked_for}
 use Rattle.encoding.specs.Views.{vertex_views}
 use Rattle.encoding.proofs.naming.put_row.Goals as goal
 

@@ -1,14 +1,14 @@
 use Rattle.std.proofs.Common.{rules, ◌≡◌, ◌++◌, ◌∷◌, List, ℕ, Vec, sym, ap, ◌∙◌}
 use Rattle.std.specs.List.{flat_map}
 use Rattle.std.specs.declared.alloc.Global.{Global}
-use Rattle.features.specs.Tables.{rows_of}
+use Rattle.features.specs.inner.Tables.{rows_of}
 use Rattle.features.specs.EntryViews.{entry_views}
 use Rattle.features.specs.declared.entry.Entry.{Entry}
 use Rattle.features.specs.Views.{dependency_views}
 use Rattle.model.specs.Summary as model
 use Rattle.model.specs.Vertices.{Vertex}
-use Rattle.numbering.specs.KnownProblem.{problem}
-use Rattle.encoding.specs.Everything.{asked_for}
+use Rattle.numbering.specs.inner.KnownProblem.{problem}
+use Rattle.encoding.specs.inner.Everything.{asked_for}
 use Rattle.encoding.specs.Views.{vertex_views}
 use Rattle.encoding.proofs.Steps.{rest_more}
 use Rattle.encoding.proofs.naming.put_rows.Goals as goal

@@ -1,10 +1,10 @@
 use Rattle.std.proofs.Common.{◌≡◌, ◌++◌}
 use Rattle.std.specs.List.{flat_map}
 use Rattle.semver.specs.Identifiers.{parts_of}
-use Rattle.features.specs.Tables.{rows_of}
+use Rattle.features.specs.inner.Tables.{rows_of}
 use Rattle.features.specs.Views.{summary_view}
-use Rattle.numbering.specs.KnownProblem.{problem}
-use Rattle.encoding.specs.Everything.{of_feature}
+use Rattle.numbering.specs.inner.KnownProblem.{problem}
+use Rattle.encoding.specs.inner.Everything.{of_feature}
 use Rattle.encoding.specs.Views.{vertex_views}
 use Rattle.encoding.proofs.naming.put_table.Given as goal
 

@@ -8,11 +8,11 @@ use Rattle.model.specs.Summary.{Summary}
 use Rattle.model.specs.Vertices.{Vertex, pkg, version_of}
 use Rattle.catalogue.specs.Views.{said_by}
 use Rattle.catalogue.specs.declared.candidate.Candidate.{Candidate}
-use Rattle.numbering.specs.KnownProblem.{problem}
+use Rattle.numbering.specs.inner.KnownProblem.{problem}
 use Rattle.lookups.proofs.Brought.{is_there, not_there}
-use Rattle.vertices.specs.RefViews.{vertex_ref_view}
-use Rattle.encoding.specs.Everything.{of_dependency, of_table}
-use Rattle.numbering.specs.CausesAt.{each_from}
+use Rattle.vertices.specs.inner.RefViews.{vertex_ref_view}
+use Rattle.encoding.specs.inner.Everything.{of_dependency, of_table}
+use Rattle.numbering.specs.inner.CausesAt.{each_from}
 use Rattle.encoding.specs.Views.{vertex_views}
 use Rattle.encoding.proofs.naming.put_version.Goals as goal
 

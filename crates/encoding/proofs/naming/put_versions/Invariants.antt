@@ -1,8 +1,8 @@
 use Rattle.std.proofs.Common.{◌≡◌, ◌++◌, drop, map}
 use Rattle.std.specs.List.{flat_map}
 use Rattle.semver.specs.Identifiers.{parts_of}
-use Rattle.numbering.specs.KnownProblem.{problem}
-use Rattle.encoding.specs.Everything.{of_version}
+use Rattle.numbering.specs.inner.KnownProblem.{problem}
+use Rattle.encoding.specs.inner.Everything.{of_version}
 use Rattle.encoding.specs.Views.{vertex_views}
 use Rattle.encoding.proofs.naming.put_versions.Given as goal
 

@@ -3,13 +3,13 @@ use Rattle.std.proofs.lemmas.Result.{IfOk-weaker}
 use Rattle.catalogue.specs.Problems.{problem_in}
 use Rattle.model.specs.Content.{Problem}
 use Rattle.model.specs.Vertices.{Vertex, space}
-use Rattle.numbering.specs.Assignments.{state_at}
+use Rattle.numbering.specs.inner.Assignments.{state_at}
 use Rattle.numbering.specs.GivenViews.{given_views}
-use Rattle.numbering.specs.KnownProblem.{problem}
+use Rattle.numbering.specs.inner.KnownProblem.{problem}
 use Rattle.numbering.specs.Numberings.{IsGrown, IsNumbering, Numbering}
 use Rattle.numbering.specs.Pairs.{IsGivenAt}
 use Rattle.encoding.specs.Encodings.{numbered}
-use Rattle.encoding.specs.Rows.{vertices_of}
+use Rattle.encoding.specs.inner.Rows.{vertices_of}
 use Rattle.encoding.specs.Views.{vertex_views}
 use Rattle.encoding.proofs.Numbered.{none_comes, same_again}
 use Rattle.encoding.proofs.pair.pair_axioms.Goals as goal

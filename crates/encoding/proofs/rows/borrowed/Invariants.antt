@@ -1,5 +1,5 @@
 use Rattle.std.proofs.Common.{◌≡◌, ◌++◌, drop}
-use Rattle.encoding.specs.Rows.{vertices_of}
+use Rattle.encoding.specs.inner.Rows.{vertices_of}
 use Rattle.encoding.specs.Views.{vertex_views}
 use Rattle.encoding.proofs.rows.borrowed.Given as goal
 

@@ -1,9 +1,9 @@
 use Rattle.std.proofs.Common.{◌≡◌, [], ap, ◌∙◌, map}
 use Rattle.std.proofs.lemmas.Result.{IfOk-weaker}
-use Rattle.numbering.specs.KnownProblem.{problem}
+use Rattle.numbering.specs.inner.KnownProblem.{problem}
 use Rattle.encoding.specs.Encodings.{numbered}
-use Rattle.encoding.specs.Everything.{named}
-use Rattle.encoding.specs.Rows.{IsEncoding, row_view, sized}
+use Rattle.encoding.specs.inner.Everything.{named}
+use Rattle.encoding.specs.inner.Rows.{IsEncoding, row_view, sized}
 use Rattle.encoding.specs.Views.{vertex_views}
 use Rattle.encoding.proofs.RowLaws.{rows_are}
 use Rattle.encoding.proofs.rows.every_row.Goals as goal

@@ -3,9 +3,9 @@ use Rattle.std.specs.Prelude.{option_map}
 use Rattle.std.proofs.lemmas.Option.{none-some, same_Some}
 use Rattle.std.proofs.lemmas.Result.{on_ok_weaker}
 use Rattle.model.specs.Vertices.{Vertex}
-use Rattle.numbering.specs.KnownProblem.{problem}
-use Rattle.vertices.specs.RefViews.{vertex_ref_view}
-use Rattle.encoding.specs.Rows.{row_view, sized}
+use Rattle.numbering.specs.inner.KnownProblem.{problem}
+use Rattle.vertices.specs.inner.RefViews.{vertex_ref_view}
+use Rattle.encoding.specs.inner.Rows.{row_view, sized}
 use Rattle.encoding.proofs.rows.put_row.Goals as goal
 
 pub returns-in-Some : goal.returns-in-Some

@@ -2,8 +2,8 @@ use Rattle.std.proofs.Common.{◌≡◌, ◌<◌, ◌≤◌, ◌+◌, ◌++◌, 
 use Rattle.std.proofs.Common.{arith}
 use Rattle.std.proofs.lemmas.List.{map-append}
 use Rattle.model.proofs.Places.{some_at}
-use Rattle.numbering.specs.KnownProblem.{problem}
-use Rattle.encoding.specs.Rows.{row_view, sized}
+use Rattle.numbering.specs.inner.KnownProblem.{problem}
+use Rattle.encoding.specs.inner.Rows.{row_view, sized}
 use Rattle.encoding.proofs.Pairing.{take_none, taken_next}
 use Rattle.encoding.proofs.rows.rows_of.Goals as goal
 

@@ -1,6 +1,6 @@
 use Rattle.std.proofs.Common.{◌≡◌, map, take}
-use Rattle.numbering.specs.KnownProblem.{problem}
-use Rattle.encoding.specs.Rows.{row_view, sized}
+use Rattle.numbering.specs.inner.KnownProblem.{problem}
+use Rattle.encoding.specs.inner.Rows.{row_view, sized}
 use Rattle.encoding.proofs.rows.rows_of.Given as goal
 
 -- the rows are those of the vertices so far

@@ -1,6 +1,6 @@
 use Rattle.std.proofs.Common.{◌≡◌, ◌++◌, drop, string_bytes}
 use Rattle.std.specs.List.{flat_map}
-use Rattle.derivations.specs.Tables.{steps_at}
+use Rattle.derivations.specs.inner.Tables.{steps_at}
 use Rattle.explainer.specs.Explanations.{line_at}
 use Rattle.explainer.proofs.explanation.lines.Given as goal
 

@@ -1,5 +1,5 @@
 use Rattle.std.proofs.Common.{codes}
-use Rattle.derivations.specs.Tables.{term_at}
+use Rattle.derivations.specs.inner.Tables.{term_at}
 use Rattle.explainer.specs.Explanations.{term_words}
 use Rattle.explainer.proofs.Between.{all-written}
 use Rattle.explainer.proofs.explanation.push_terms.Goals as goal

@@ -1,5 +1,5 @@
 use Rattle.std.proofs.Common.{◌≡◌, ◌++◌, drop, false, string_bytes, codes}
-use Rattle.derivations.specs.Tables.{terms_at}
+use Rattle.derivations.specs.inner.Tables.{terms_at}
 use Rattle.explainer.specs.Explanations.{term_words}
 use Rattle.explainer.proofs.Between.{separated}
 use Rattle.explainer.proofs.explanation.push_terms.Given as goal

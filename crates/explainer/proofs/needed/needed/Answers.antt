@@ -1,7 +1,7 @@
 use Rattle.std.proofs.Common.{◌≡◌, ℕ, ◌-◌, false, cond, length, replicate, reverse, sym, ap, ◌∙◌, arith}
-use Rattle.derivations.specs.References.{references_at}
+use Rattle.derivations.specs.inner.References.{references_at}
 use Rattle.explainer.specs.Explanations.{needed}
-use Rattle.explainer.specs.Marks.{is_needed, with_two}
+use Rattle.explainer.specs.inner.Marks.{is_needed, with_two}
 use Rattle.explainer.proofs.Sweep.{as-long, begun, went-on, kept-length, last-first}
 use Rattle.explainer.proofs.needed.needed.Goals as goal
 

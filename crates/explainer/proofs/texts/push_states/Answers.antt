@@ -1,6 +1,6 @@
 use Rattle.std.proofs.Common.{codes}
 use Rattle.vertices.specs.Texts.{state_text}
-use Rattle.derivations.specs.Tables.{state_at}
+use Rattle.derivations.specs.inner.Tables.{state_at}
 use Rattle.explainer.proofs.Between.{all-written}
 use Rattle.explainer.proofs.texts.push_states.Goals as goal
 

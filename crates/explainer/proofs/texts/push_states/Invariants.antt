@@ -1,6 +1,6 @@
 use Rattle.std.proofs.Common.{◌≡◌, ◌++◌, drop, false, string_bytes, codes}
 use Rattle.vertices.specs.Texts.{state_text}
-use Rattle.derivations.specs.Tables.{states_at}
+use Rattle.derivations.specs.inner.Tables.{states_at}
 use Rattle.explainer.proofs.Between.{separated}
 use Rattle.explainer.proofs.texts.push_states.Given as goal
 

@@ -1,4 +1,4 @@
-use Rattle.derivations.specs.Tables.{AreStatesOf}
+use Rattle.derivations.specs.inner.Tables.{AreStatesOf}
 use Rattle.explainer.proofs.TextLaws.{at-each}
 use Rattle.explainer.proofs.texts.sets_in.Goals as goal
 

@@ -1,5 +1,5 @@
 use Rattle.std.proofs.Common.{◌≡◌, map, string_bytes, take}
-use Rattle.explainer.specs.Texts.{sets_words}
+use Rattle.explainer.specs.inner.Texts.{sets_words}
 use Rattle.explainer.proofs.texts.sets_in.Given as goal
 
 abbrev pub invariant-sets : goal.invariant-sets

@@ -1,5 +1,5 @@
 use Rattle.std.proofs.Common.{◌≡◌, ◌<◌, ℕ, true, Contains}
-use Rattle.facts.specs.Chains.{has}
+use Rattle.facts.specs.inner.Chains.{has}
 use Rattle.facts.proofs.closing.all_marked.Given as goal
 
 abbrev pub invariant-facts : goal.invariant-facts

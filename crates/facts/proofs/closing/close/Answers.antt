@@ -1,8 +1,8 @@
 use Rattle.std.proofs.Common.{rules, ◌≡◌, [], sym, ap, ◌∙◌, length, refl, subst, subst₂, arith}
-use Rattle.facts.specs.Chains.{AreBelow}
-use Rattle.facts.specs.Lists.{rule_lists, rules_at, index_of}
-use Rattle.facts.specs.Worklists.{Follows, IsSound, Worked}
-use Rattle.facts.specs.Chains.IsGiven.{begins}
+use Rattle.facts.specs.inner.Chains.{AreBelow}
+use Rattle.facts.specs.inner.Lists.{rule_lists, rules_at, index_of}
+use Rattle.facts.specs.inner.Worklists.{Follows, IsSound, Worked}
+use Rattle.facts.specs.inner.Chains.IsGiven.{begins}
 use Rattle.facts.proofs.ListLemmas.{index_within}
 use Rattle.facts.proofs.WorklistLemmas.{all_given, begun, followers_below, sound_again, sound_by_more, waits_below}
 use Rattle.facts.proofs.WorklistLemmas.{worked_on}

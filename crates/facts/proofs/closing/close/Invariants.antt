@@ -1,5 +1,5 @@
 use Rattle.std.proofs.Common.{◌≡◌, ◌+◌, length}
-use Rattle.facts.specs.Worklists.{Worked, unmarked}
+use Rattle.facts.specs.inner.Worklists.{Worked, unmarked}
 use Rattle.facts.proofs.closing.close.Given as goal
 
 abbrev pub invariant-facts : goal.invariant-facts

@@ -1,7 +1,7 @@
 use Rattle.std.proofs.Common.{◌+◌, ◌++◌, ◌∷◌, [], ◌∙◌, cond, get_or, take, refl}
 use Rattle.std.proofs.lemmas.List.{take_more}
 use Rattle.facts.specs.declared.rule.Rule.{Rule}
-use Rattle.facts.specs.Worklists.{Follows, is_ready}
+use Rattle.facts.specs.inner.Worklists.{Follows, is_ready}
 use Rattle.facts.proofs.ListLemmas.{take_within}
 use Rattle.facts.proofs.WorklistLemmas.{none_followed, one_followed, sound_by_more}
 use Rattle.facts.proofs.closing.follow.Goals as goal

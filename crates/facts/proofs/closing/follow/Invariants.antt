@@ -1,5 +1,5 @@
 use Rattle.std.proofs.Common.{◌≡◌, length, take}
-use Rattle.facts.specs.Worklists.{Follows}
+use Rattle.facts.specs.inner.Worklists.{Follows}
 use Rattle.facts.proofs.closing.follow.Given as goal
 
 abbrev pub invariant-rules : goal.invariant-rules

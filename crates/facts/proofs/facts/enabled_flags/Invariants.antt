@@ -1,6 +1,6 @@
 use Rattle.std.proofs.Common.{◌≡◌, map, take}
-use Rattle.facts.specs.FactNumbers.{numbers_views}
-use Rattle.facts.specs.RuleLists.{enabled_flags}
+use Rattle.facts.specs.inner.FactNumbers.{numbers_views}
+use Rattle.facts.specs.inner.RuleLists.{enabled_flags}
 use Rattle.facts.proofs.facts.enabled_flags.Given as goal
 
 abbrev pub invariant-packages : goal.invariant-packages

@@ -1,7 +1,7 @@
 use Rattle.std.proofs.Common.{◌≡◌, ◌∙◌, ap}
-use Rattle.facts.specs.Graphs.{node_views}
-use Rattle.facts.specs.FactNumbers.{numbers_views}
-use Rattle.facts.specs.RuleLists.{all_rules}
+use Rattle.facts.specs.inner.Graphs.{node_views}
+use Rattle.facts.specs.inner.FactNumbers.{numbers_views}
+use Rattle.facts.specs.inner.RuleLists.{all_rules}
 use Rattle.facts.proofs.Whole.{below_made, here_made, enabled_made, lacks_made}
 use Rattle.facts.proofs.facts.facts_of.Goals as goal
 

@@ -1,6 +1,6 @@
 use Rattle.std.proofs.Common.{◌≡◌, take}
-use Rattle.facts.specs.FactNumbers.{link_views}
-use Rattle.facts.specs.RuleLists.{link_flags}
+use Rattle.facts.specs.inner.FactNumbers.{link_views}
+use Rattle.facts.specs.inner.RuleLists.{link_flags}
 use Rattle.facts.proofs.facts.link_flags.Given as goal
 
 abbrev pub invariant-links : goal.invariant-links

@@ -1,6 +1,6 @@
 use Rattle.std.proofs.Common.{rules, ◌≡◌, suc, ◌++◌, ◌∷◌, ◌+◌, [], ap, ap₂, ◌∙◌, arith}
 use Rattle.std.proofs.lemmas.List.{map-append}
-use Rattle.facts.specs.Lists.{rule_lists, no_lists}
+use Rattle.facts.specs.inner.Lists.{rule_lists, no_lists}
 use Rattle.facts.proofs.ListLemmas.{one_more_list}
 use Rattle.facts.proofs.lists.no_lists.Goals as goal
 

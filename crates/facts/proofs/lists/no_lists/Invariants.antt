@@ -1,5 +1,5 @@
 use Rattle.std.proofs.Common.{◌≡◌, length}
-use Rattle.facts.specs.Lists.{rule_lists, no_lists}
+use Rattle.facts.specs.inner.Lists.{rule_lists, no_lists}
 use Rattle.facts.proofs.lists.no_lists.Given as goal
 
 abbrev pub invariant-facts : goal.invariant-facts

@@ -1,5 +1,5 @@
 use Rattle.std.proofs.Common.{ap}
-use Rattle.facts.specs.Lists.{put_all}
+use Rattle.facts.specs.inner.Lists.{put_all}
 use Rattle.facts.proofs.lists.rules_by_fact.Goals as goal
 
 pub rules-init : goal.rules-init

@@ -1,5 +1,5 @@
 use Rattle.std.proofs.Common.{◌≡◌, length, drop}
-use Rattle.facts.specs.Lists.{rule_lists, put_all, index_of}
+use Rattle.facts.specs.inner.Lists.{rule_lists, put_all, index_of}
 use Rattle.facts.proofs.lists.rules_by_fact.Given as goal
 
 -- the lists so far with the rules that are left are the lists of all

@@ -5,8 +5,8 @@ use Rattle.std.specs.Ordering.{is_lt}
 use Rattle.std.proofs.lemmas.List.Sorted.{answers_always, ranks_by}
 use Rattle.model.specs.Order.{text_cmp}
 use Rattle.model.specs.Summary.{same_text}
-use Rattle.facts.specs.ByName.{name_of}
-use Rattle.facts.specs.FactNumbers.{link_view}
+use Rattle.facts.specs.inner.ByName.{name_of}
+use Rattle.facts.specs.inner.FactNumbers.{link_view}
 use Rattle.facts.proofs.ByName.{filter-seen, same_named}
 use Rattle.facts.proofs.numbering.by_name.Goals as goal
 

@@ -1,6 +1,6 @@
 use Rattle.std.proofs.Common.{◌≡◌, ◌++◌, drop, length}
 use Rattle.features.specs.Views.{dependency_views}
-use Rattle.facts.specs.FactNumbers.{link_views, links_from, unmarked_for}
+use Rattle.facts.specs.inner.FactNumbers.{link_views, links_from, unmarked_for}
 use Rattle.facts.proofs.numbering.links_of.Given as goal
 
 abbrev pub invariant-dependencies : goal.invariant-dependencies

@@ -1,6 +1,6 @@
 use Rattle.std.proofs.Common.{◌≡◌, ◌++◌}
-use Rattle.features.specs.Tables.{rows_of}
-use Rattle.facts.specs.FactNumbers.{unmarked_for}
+use Rattle.features.specs.inner.Tables.{rows_of}
+use Rattle.facts.specs.inner.FactNumbers.{unmarked_for}
 use Rattle.facts.proofs.numbering.mark_rows.Given as goal
 
 abbrev pub invariant-rows : goal.invariant-rows

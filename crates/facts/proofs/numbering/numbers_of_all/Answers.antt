@@ -1,8 +1,8 @@
 use Rattle.std.proofs.Common.{◌≡◌, ◌∷◌, ◌+◌, [], length, take, sym, ap, ◌∙◌, subst, subst₂}
 use Rattle.std.proofs.lemmas.List.{length-append, map-append}
-use Rattle.facts.specs.Graphs.{node_view, node_views}
-use Rattle.facts.specs.FactNumbers.{flags_of, flags_of_all, numbers_view, numbers_views, AreNumberedFrom}
-use Rattle.facts.specs.FactNumbers.{IsNumberedFrom}
+use Rattle.facts.specs.inner.Graphs.{node_view, node_views}
+use Rattle.facts.specs.inner.FactNumbers.{flags_of, flags_of_all, numbers_view, numbers_views, AreNumberedFrom}
+use Rattle.facts.specs.inner.FactNumbers.{IsNumberedFrom}
 use Rattle.facts.proofs.LoopLemmas.{views_more, loop_more}
 use Rattle.facts.proofs.NumbersLemmas.{numbers_more}
 use Rattle.facts.proofs.numbering.numbers_of_all.Goals as goal

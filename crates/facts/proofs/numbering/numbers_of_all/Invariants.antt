@@ -1,6 +1,6 @@
 use Rattle.std.proofs.Common.{◌≡◌, ◌++◌, length, take}
-use Rattle.facts.specs.Graphs.{node_views}
-use Rattle.facts.specs.FactNumbers.{flags_of_all, numbers_views, AreNumberedFrom}
+use Rattle.facts.specs.inner.Graphs.{node_views}
+use Rattle.facts.specs.inner.FactNumbers.{flags_of_all, numbers_views, AreNumberedFrom}
 use Rattle.facts.proofs.numbering.numbers_of_all.Given as goal
 
 abbrev pub invariant-nodes : goal.invariant-nodes

@@ -1,4 +1,4 @@
-use Rattle.model.specs.Search.{LeadsTo}
+use Rattle.model.specs.inner.Search.{LeadsTo}
 use Rattle.model.proofs.Cut.{stands_valid}
 use Rattle.facts.proofs.Found.{stands}
 use Rattle.facts.proofs.reaching.built_contents_select.Goals as goal

@@ -1,4 +1,4 @@
-use Rattle.model.specs.Search.{LeadsTo}
+use Rattle.model.specs.inner.Search.{LeadsTo}
 use Rattle.model.proofs.Choices.{arriving}
 use Rattle.facts.proofs.Found.{kept_are}
 use Rattle.facts.proofs.reaching.found_owners_are_kept.Goals as goal

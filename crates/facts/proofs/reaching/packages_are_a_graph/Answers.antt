@@ -1,4 +1,4 @@
-use Rattle.model.specs.Search.{LeadsTo}
+use Rattle.model.specs.inner.Search.{LeadsTo}
 use Rattle.facts.proofs.Found.{is_graph}
 use Rattle.facts.proofs.reaching.packages_are_a_graph.Goals as goal
 

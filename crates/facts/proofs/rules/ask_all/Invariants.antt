@@ -1,6 +1,6 @@
 use Rattle.std.proofs.Common.{◌≡◌, ◌++◌, take}
-use Rattle.facts.specs.FactNumbers.{link_views, numbers_views}
-use Rattle.facts.specs.RuleLists.{ask_all}
+use Rattle.facts.specs.inner.FactNumbers.{link_views, numbers_views}
+use Rattle.facts.specs.inner.RuleLists.{ask_all}
 use Rattle.facts.proofs.rules.ask_all.Given as goal
 
 abbrev pub invariant-links : goal.invariant-links

@@ -1,6 +1,6 @@
 use Rattle.std.proofs.Common.{◌≡◌, ◌++◌, take}
-use Rattle.facts.specs.FactNumbers.{numbers_view}
-use Rattle.facts.specs.RuleLists.{ask_features}
+use Rattle.facts.specs.inner.FactNumbers.{numbers_view}
+use Rattle.facts.specs.inner.RuleLists.{ask_features}
 use Rattle.facts.proofs.rules.ask_features.Given as goal
 
 abbrev pub invariant-features : goal.invariant-features

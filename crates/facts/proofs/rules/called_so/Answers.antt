@@ -1,7 +1,7 @@
 use Rattle.std.proofs.Common.{map, sym, ap, ◌∙◌, subst}
 use Rattle.model.specs.Summary.{same_text}
-use Rattle.facts.specs.ByName.{AreByName, name_of}
-use Rattle.facts.specs.FactNumbers.{link_view, links_called}
+use Rattle.facts.specs.inner.ByName.{AreByName, name_of}
+use Rattle.facts.specs.inner.FactNumbers.{link_view, links_called}
 use Rattle.facts.proofs.ByName.{filter-seen, piece_is, rest_sorted}
 use Rattle.facts.proofs.rules.called_so.Goals as goal
 

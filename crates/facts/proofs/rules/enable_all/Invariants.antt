@@ -1,6 +1,6 @@
 use Rattle.std.proofs.Common.{◌≡◌, ◌++◌, take}
-use Rattle.facts.specs.FactNumbers.{link_views}
-use Rattle.facts.specs.RuleLists.{enable_all}
+use Rattle.facts.specs.inner.FactNumbers.{link_views}
+use Rattle.facts.specs.inner.RuleLists.{enable_all}
 use Rattle.facts.proofs.rules.enable_all.Given as goal
 
 abbrev pub invariant-links : goal.invariant-links

@@ -1,10 +1,10 @@
 use Rattle.std.proofs.Common.{rules, ◌≡◌, ◌+◌, ◌++◌, ◌∷◌, List, ℕ, Vec, length, sym, ap, ◌∙◌, arith}
 use Rattle.std.specs.declared.alloc.Global.{Global}
-use Rattle.features.specs.Tables.{rows_of}
+use Rattle.features.specs.inner.Tables.{rows_of}
 use Rattle.features.specs.EntryViews.{entry_views}
 use Rattle.features.specs.declared.entry.Entry.{Entry}
-use Rattle.facts.specs.FactNumbers.{number_in, numbers_view, numbers_views}
-use Rattle.facts.specs.RuleLists.{entries_rules}
+use Rattle.facts.specs.inner.FactNumbers.{number_in, numbers_view, numbers_views}
+use Rattle.facts.specs.inner.RuleLists.{entries_rules}
 use Rattle.facts.proofs.RowRules.{numbered_rules, by_numbers, numbered_more}
 use Rattle.facts.proofs.rules.features_rules.Goals as goal
 

@@ -1,7 +1,7 @@
 use Rattle.std.proofs.Common.{◌≡◌, ◌+◌, ◌++◌, length}
-use Rattle.features.specs.Tables.{rows_of}
-use Rattle.facts.specs.FactNumbers.{numbers_view, numbers_views}
-use Rattle.facts.specs.RuleLists.{features_rules}
+use Rattle.features.specs.inner.Tables.{rows_of}
+use Rattle.facts.specs.inner.FactNumbers.{numbers_view, numbers_views}
+use Rattle.facts.specs.inner.RuleLists.{features_rules}
 use Rattle.facts.proofs.RowRules.{numbered_rules}
 use Rattle.facts.proofs.rules.features_rules.Given as goal
 

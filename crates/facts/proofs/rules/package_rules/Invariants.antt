@@ -1,7 +1,7 @@
 use Rattle.std.proofs.Common.{◌≡◌, ◌++◌, take}
 use Rattle.std.specs.List.{flat_map}
-use Rattle.facts.specs.FactNumbers.{link_views, numbers_views}
-use Rattle.facts.specs.RuleLists.{link_rules}
+use Rattle.facts.specs.inner.FactNumbers.{link_views, numbers_views}
+use Rattle.facts.specs.inner.RuleLists.{link_rules}
 use Rattle.facts.proofs.rules.package_rules.Given as goal
 
 abbrev pub invariant-links : goal.invariant-links

@@ -1,7 +1,7 @@
 use Rattle.std.proofs.Common.{◌≡◌, ◌++◌, take}
 use Rattle.features.specs.EntryViews.{entry_views}
-use Rattle.facts.specs.FactNumbers.{numbers_view, numbers_views}
-use Rattle.facts.specs.RuleLists.{root_entries}
+use Rattle.facts.specs.inner.FactNumbers.{numbers_view, numbers_views}
+use Rattle.facts.specs.inner.RuleLists.{root_entries}
 use Rattle.facts.proofs.rules.root_entries.Given as goal
 
 abbrev pub invariant-entries : goal.invariant-entries

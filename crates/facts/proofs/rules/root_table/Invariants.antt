@@ -1,7 +1,7 @@
 use Rattle.std.proofs.Common.{◌≡◌, ◌++◌}
-use Rattle.features.specs.Tables.{rows_of}
-use Rattle.facts.specs.FactNumbers.{numbers_view, numbers_views}
-use Rattle.facts.specs.RuleLists.{root_table}
+use Rattle.features.specs.inner.Tables.{rows_of}
+use Rattle.facts.specs.inner.FactNumbers.{numbers_view, numbers_views}
+use Rattle.facts.specs.inner.RuleLists.{root_table}
 use Rattle.facts.proofs.rules.root_table.Given as goal
 
 abbrev pub invariant-rows : goal.invariant-rows

@@ -1,6 +1,6 @@
 use Rattle.std.proofs.Common.{◌≡◌, ◌++◌, drop}
-use Rattle.facts.specs.FactNumbers.{numbers_views}
-use Rattle.facts.specs.RuleLists.{rules_from, all_rules}
+use Rattle.facts.specs.inner.FactNumbers.{numbers_views}
+use Rattle.facts.specs.inner.RuleLists.{rules_from, all_rules}
 use Rattle.facts.proofs.rules.rules_of.Given as goal
 
 abbrev pub invariant-packages : goal.invariant-packages

@@ -2,7 +2,7 @@ use Rattle.std.proofs.Common.{rules}
 use Rattle.std.specs.Ordering.{is_le}
 use Rattle.std.proofs.lemmas.List.Sorted.{IsPartitionPoint-from_clause}
 use Rattle.model.specs.Order.{text_cmp}
-use Rattle.facts.specs.ByName.{name_of}
+use Rattle.facts.specs.inner.ByName.{name_of}
 use Rattle.facts.proofs.ByName.{up_to_parted}
 use Rattle.facts.proofs.rules.up_to.Goals as goal
 

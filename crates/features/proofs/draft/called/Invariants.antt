@@ -1,7 +1,7 @@
 use Rattle.std.proofs.Common.{take}
 use Rattle.model.specs.Tables.{has_dependency}
-use Rattle.features.specs.Texts.{HasThose, texts_in}
-use Rattle.features.specs.Tables.{dep_names_view}
+use Rattle.features.specs.inner.Texts.{HasThose, texts_in}
+use Rattle.features.specs.inner.Tables.{dep_names_view}
 use Rattle.features.proofs.draft.called.Given as goal
 
 -- the names of the dependencies so far

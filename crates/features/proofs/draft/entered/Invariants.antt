@@ -1,7 +1,7 @@
 use Rattle.std.proofs.Common.{take}
 use Rattle.model.specs.Tables.{has_dep_entry}
-use Rattle.features.specs.Texts.{HasThose, texts_in}
-use Rattle.features.specs.Tables.{rows_of}
+use Rattle.features.specs.inner.Texts.{HasThose, texts_in}
+use Rattle.features.specs.inner.Tables.{rows_of}
 use Rattle.features.proofs.draft.entered.Given as goal
 
 -- the names in the rows so far

@@ -1,7 +1,7 @@
 use Rattle.std.proofs.Common.{take}
 use Rattle.model.specs.Tables.{is_optional}
-use Rattle.features.specs.Texts.{HasThose, texts_in}
-use Rattle.features.specs.Tables.{dep_names_view}
+use Rattle.features.specs.inner.Texts.{HasThose, texts_in}
+use Rattle.features.specs.inner.Tables.{dep_names_view}
 use Rattle.features.proofs.draft.optional.Given as goal
 
 -- the names of the optional dependencies so far

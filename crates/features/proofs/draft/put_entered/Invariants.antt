@@ -1,7 +1,7 @@
 use Rattle.std.proofs.Common.{◌≡◌, ◌||◌, ℕ, List, take}
 use Rattle.std.specs.List.{list_any}
 use Rattle.model.specs.Tables.{is_dep}
-use Rattle.features.specs.Texts.{has_text, texts_in}
+use Rattle.features.specs.inner.Texts.{has_text, texts_in}
 use Rattle.features.specs.EntryViews.{entry_views}
 use Rattle.features.proofs.draft.put_entered.Given as goal
 

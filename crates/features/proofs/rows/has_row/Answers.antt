@@ -1,5 +1,5 @@
 use Rattle.std.proofs.Common.{is_some, refl, ap, sym, ◌∙◌}
-use Rattle.features.specs.Tables.{rows_of}
+use Rattle.features.specs.inner.Tables.{rows_of}
 use Rattle.features.proofs.TableLemmas.{has-get, is_some-option_map}
 use Rattle.features.proofs.rows.has_row.Goals as goal
 

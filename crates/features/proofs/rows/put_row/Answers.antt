@@ -2,7 +2,7 @@ use Rattle.std.proofs.Common.{rules, ◌<◌, ◌≤◌, length, Ok, Err, subst,
 use Rattle.std.specs.List.Sorted.{IsBinarySearchResult}
 use Rattle.std.proofs.lemmas.Fn.{always_returns_same}
 use Rattle.model.specs.Order.{text_cmp}
-use Rattle.features.specs.Tables.{AreRising}
+use Rattle.features.specs.inner.Tables.{AreRising}
 use Rattle.features.proofs.RowLemmas.{put_between, put_found, rising_put}
 use Rattle.features.proofs.rows.put_row.Goals as goal
 

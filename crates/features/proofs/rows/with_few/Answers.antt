@@ -1,7 +1,7 @@
 use Rattle.std.proofs.Common.{rules, subst, sym}
 use Rattle.std.specs.Vec.Iter.{into_iter_items}
-use Rattle.features.specs.Drafts.{with_rows}
-use Rattle.features.specs.Tables.{AreRising, rows_of}
+use Rattle.features.specs.inner.Drafts.{with_rows}
+use Rattle.features.specs.inner.Tables.{AreRising, rows_of}
 use Rattle.features.proofs.BuildLemmas.{row-put}
 use Rattle.features.proofs.rows.with_few.Goals as goal
 

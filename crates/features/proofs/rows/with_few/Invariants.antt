@@ -1,7 +1,7 @@
 use Rattle.std.proofs.Common.{◌≡◌}
 use Rattle.std.specs.Vec.Iter.{into_iter_items}
-use Rattle.features.specs.Drafts.{with_rows}
-use Rattle.features.specs.Tables.{AreRising, rows_of}
+use Rattle.features.specs.inner.Drafts.{with_rows}
+use Rattle.features.specs.inner.Tables.{AreRising, rows_of}
 use Rattle.features.proofs.rows.with_few.Given as goal
 
 -- the rows so far with those that are left are the rows with all of them

@@ -1,7 +1,7 @@
 use Rattle.std.proofs.Common.{◌≡◌}
 use Rattle.std.specs.Vec.Iter.{into_iter_items}
-use Rattle.features.specs.Drafts.{with_rows}
-use Rattle.features.specs.Tables.{rows_of}
+use Rattle.features.specs.inner.Drafts.{with_rows}
+use Rattle.features.specs.inner.Tables.{rows_of}
 use Rattle.features.proofs.rows.with_many.Given as goal
 
 -- the table so far with the rows that are left is the table with all of them

@@ -3,7 +3,7 @@ use Rattle.std.specs.BTreeMap.{insert_entry}
 use Rattle.model.specs.Order.{text_cmp}
 use Rattle.model.specs.Summary.{has_feature}
 use Rattle.model.specs.Tables.{default_feature}
-use Rattle.features.specs.Tables.{rows_of}
+use Rattle.features.specs.inner.Tables.{rows_of}
 use Rattle.features.proofs.BuildLemmas.{default-put}
 use Rattle.features.proofs.table.with_default.Goals as goal
 

@@ -1,9 +1,9 @@
 use Rattle.std.proofs.Common.{not, cond, nat_eq, None, map, unwrap_or, slice_get, [], get_or, ◌∙◌, sym, ap, arith}
-use Rattle.facts.specs.Graphs.{flag_at}
-use Rattle.lockfile.specs.Views.{package_view}
+use Rattle.facts.specs.inner.Graphs.{flag_at}
+use Rattle.lockfile.specs.inner.Views.{package_view}
 use Rattle.lockfile.specs.declared.package.Package as code
 use Rattle.selection.proofs.Seconds.{view_at}
-use Rattle.flaws.specs.Reasons.{why_none}
+use Rattle.flaws.specs.inner.Reasons.{why_none}
 use Rattle.flaws.specs.declared.flawed.Flawed.{Flawed}
 use Rattle.flaws.proofs.Found.{flaws_are}
 use Rattle.flaws.proofs.judging.flawed_at.Goals as goal

@@ -1,8 +1,8 @@
 use Rattle.std.proofs.Common.{arith, subst, sym}
 use Rattle.std.proofs.lemmas.List.{length-map}
-use Rattle.lockfile.specs.Views.{package_view}
-use Rattle.selection.specs.Places.{content_in}
-use Rattle.flaws.specs.Flaws.{AreToldBelow}
+use Rattle.lockfile.specs.inner.Views.{package_view}
+use Rattle.selection.specs.inner.Places.{content_in}
+use Rattle.flaws.specs.inner.Flaws.{AreToldBelow}
 use Rattle.flaws.proofs.Telling.{none_told, one_more, all_told}
 use Rattle.flaws.proofs.judging.flawed_in.Goals as goal
 

@@ -1,7 +1,7 @@
 use Rattle.manifest.specs.Manifests.{ManifestView}
 use Rattle.catalogue.specs.Problems.{problem_in}
-use Rattle.selection.specs.Places.{AreFindings, content_in}
-use Rattle.flaws.specs.Flaws.{AreToldBelow}
+use Rattle.selection.specs.inner.Places.{AreFindings, content_in}
+use Rattle.flaws.specs.inner.Flaws.{AreToldBelow}
 use Rattle.flaws.proofs.judging.flawed_in.Given as goal
 
 -- those so far are told

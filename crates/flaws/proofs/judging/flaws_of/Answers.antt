@@ -2,9 +2,9 @@ use Rattle.std.proofs.Common.{refl, sym, subst}
 use Rattle.catalogue.specs.Problems.{problem_in}
 use Rattle.model.specs.Selection.{IsRootAt}
 use Rattle.model.specs.WellFormed.{IsContent}
-use Rattle.selection.specs.Places.{AreFound}
+use Rattle.selection.specs.inner.Places.{AreFound}
 use Rattle.selection.proofs.Composing.{beside}
-use Rattle.flaws.specs.Flaws.{AreTold}
+use Rattle.flaws.specs.inner.Flaws.{AreTold}
 use Rattle.flaws.proofs.Telling.{nothing_told}
 use Rattle.flaws.proofs.judging.flaws_of.Goals as goal
 

@@ -3,7 +3,7 @@ use Rattle.model.proofs.Mapped.{any-map}
 use Rattle.features.specs.Views.{requirement_view}
 use Rattle.index_reader.specs.Records.{RecordView}
 use Rattle.index_reader.specs.Views.{record_view}
-use Rattle.flaws.specs.Lacks.{is_held_back}
+use Rattle.flaws.specs.inner.Lacks.{is_held_back}
 use Rattle.flaws.proofs.lack.would_match.Goals as goal
 
 pub returns : goal.returns

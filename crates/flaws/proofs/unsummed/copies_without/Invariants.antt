@@ -1,6 +1,6 @@
 use Rattle.std.proofs.Common.{◌≡◌, map, take}
-use Rattle.lockfile.specs.Views.{package_views}
-use Rattle.flaws.specs.Unsummed.{without_checksum}
+use Rattle.lockfile.specs.inner.Views.{package_views}
+use Rattle.flaws.specs.inner.Unsummed.{without_checksum}
 use Rattle.flaws.proofs.unsummed.copies_without.Given as goal
 
 -- the copies are those of the packages so far

@@ -2,7 +2,7 @@ use Rattle.std.proofs.Common.{length, map, ◌-◌}
 use Rattle.incompatibilities.specs.Stores.{entries_view}
 use Rattle.propagation.specs.Promises.{IsTrail}
 use Rattle.propagation.specs.Trails.{trail_view}
-use Rattle.guiding.specs.Guides.{IsCome, IsEncoding}
+use Rattle.guiding.specs.inner.Guides.{IsCome, IsEncoding}
 use Rattle.guiding.proofs.coming.come.Given as goal
 
 abbrev pub invariant-vertices : goal.invariant-vertices

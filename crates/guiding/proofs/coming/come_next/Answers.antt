@@ -4,7 +4,7 @@ use Rattle.std.proofs.lemmas.List.{length-map}
 use Rattle.incompatibilities.specs.Stores.{entries_view}
 use Rattle.version_sets.specs.Sets.{Members}
 use Rattle.model.specs.Vertices.{Vertex, space}
-use Rattle.numbering.specs.KnownProblem.{problem}
+use Rattle.numbering.specs.inner.KnownProblem.{problem}
 use Rattle.propagation.specs.Trails.{trail_view}
 use Rattle.propagation.proofs.Widened.{below_proper}
 use Rattle.guiding.proofs.Arrivals.{encoding_next, map_append}

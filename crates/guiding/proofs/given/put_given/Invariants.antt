@@ -2,7 +2,7 @@ use Rattle.std.proofs.Common.{◌≡◌}
 use Rattle.std.specs.Vec.Iter.{into_iter_items}
 use Rattle.incompatibilities.specs.Stores.{entries_view}
 use Rattle.numbering.specs.GivenViews.{given_views}
-use Rattle.guiding.specs.Guides.{with_given}
+use Rattle.guiding.specs.inner.Guides.{with_given}
 use Rattle.guiding.proofs.given.put_given.Given as goal
 
 -- the store so far with the instances that are left is the store with all of them

@@ -1,8 +1,8 @@
 use Rattle.std.proofs.Common.{rules}
 use Rattle.std.proofs.lemmas.List.Sorted.{IsPartitionPoint-from_clause}
 use Rattle.classes.specs.Classes.{class_view}
-use Rattle.lockfile.specs.Views.{package_view}
-use Rattle.guiding.specs.Found.{is_before}
+use Rattle.lockfile.specs.inner.Views.{package_view}
+use Rattle.guiding.specs.inner.Found.{is_before}
 use Rattle.guiding.proofs.Named.{before_parted}
 use Rattle.guiding.proofs.in_content.before_class.Goals as goal
 

@@ -1,9 +1,9 @@
 use Rattle.std.proofs.Common.{◌≡◌, ◌∙◌, Bor, Some, None, option_map, ap}
 use Rattle.features.specs.Views.{dependency_view}
-use Rattle.lockfile.specs.Views.{package_view, package_views}
+use Rattle.lockfile.specs.inner.Views.{package_view, package_views}
 use Rattle.lockfile.specs.declared.package.Package.{Package}
 use Rattle.model.specs.Content.{last_serving}
-use Rattle.vertices.specs.RefViews.{owner_ref_view}
+use Rattle.vertices.specs.inner.RefViews.{owner_ref_view}
 use Rattle.guiding.proofs.Led.{no_owner, no_place, at_place, list_rises, list_within}
 use Rattle.guiding.proofs.in_content.led_to.Goals as goal
 

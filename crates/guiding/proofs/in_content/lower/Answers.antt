@@ -2,8 +2,8 @@ use Rattle.std.proofs.Common.{rules}
 use Rattle.std.specs.Ordering.{is_lt}
 use Rattle.std.proofs.lemmas.Cmp.{is_lt_index}
 use Rattle.std.proofs.lemmas.List.Sorted.{IsPartitionPoint-from_clause}
-use Rattle.lockfile.specs.Views.{package_view}
-use Rattle.lockfile.specs.Search.{named_cmp}
+use Rattle.lockfile.specs.inner.Views.{package_view}
+use Rattle.lockfile.specs.inner.Search.{named_cmp}
 use Rattle.guiding.proofs.Named.{lower_first}
 use Rattle.guiding.proofs.in_content.lower.Goals as goal
 

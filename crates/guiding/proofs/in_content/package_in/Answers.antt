@@ -1,7 +1,7 @@
 use Rattle.std.proofs.Common.{◌∙◌, find, get_or, ap}
 use Rattle.classes.specs.Classes.{class_view}
-use Rattle.lockfile.specs.Views.{package_view}
-use Rattle.guiding.specs.Found.{is_locked}
+use Rattle.lockfile.specs.inner.Views.{package_view}
+use Rattle.guiding.specs.inner.Found.{is_locked}
 use Rattle.std.proofs.lemmas.List.{take_rest}
 use Rattle.guiding.proofs.Named.{before_is_other, find_past}
 use Rattle.guiding.proofs.in_content.package_in.Goals as goal

@@ -1,8 +1,8 @@
 use Rattle.std.proofs.Common.{◌∙◌, find, ap, arith}
 use Rattle.std.proofs.lemmas.List.{take_rest}
-use Rattle.lockfile.specs.Views.{package_view}
-use Rattle.numbering.specs.KnownProblem.{problem}
-use Rattle.guiding.specs.Found.{is_sourceless}
+use Rattle.lockfile.specs.inner.Views.{package_view}
+use Rattle.numbering.specs.inner.KnownProblem.{problem}
+use Rattle.guiding.specs.inner.Found.{is_sourceless}
 use Rattle.guiding.proofs.Named.{find_past, lower_is_sourced}
 use Rattle.guiding.proofs.in_content.root_in.Goals as goal
 

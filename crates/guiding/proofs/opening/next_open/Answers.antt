@@ -1,9 +1,9 @@
 use Rattle.std.proofs.Common.{◌≡◌, ◌<◌, ◌+◌, ℕ, suc, length, map, true, sym, subst, arith, None}
 use Rattle.propagation.specs.Trails.{set_of, step_at, trail_view}
 use Rattle.propagation.proofs.Back.{sets_long}
-use Rattle.guiding.specs.Searching.{IsOnly, IsSeen}
+use Rattle.guiding.specs.inner.Searching.{IsOnly, IsSeen}
 use Rattle.guiding.proofs.Seen.{seen_next}
-use Rattle.guiding.specs.Guides.{IsOpenAt, asked_of}
+use Rattle.guiding.specs.inner.Guides.{IsOpenAt, asked_of}
 use Rattle.guiding.proofs.opening.next_open.Goals as goal
 
 pub open_at-requires-clause-vertex : goal.open_at-requires-clause-vertex

@@ -1,7 +1,7 @@
 use Rattle.std.proofs.Common.{length, map, ◌-◌}
 use Rattle.propagation.specs.Trails.{trail_view}
-use Rattle.guiding.specs.Searching.{IsSeen}
-use Rattle.guiding.specs.Guides.{asked_of}
+use Rattle.guiding.specs.inner.Searching.{IsSeen}
+use Rattle.guiding.specs.inner.Guides.{asked_of}
 use Rattle.guiding.proofs.opening.next_open.Given as goal
 
 abbrev pub invariant-places : goal.invariant-places

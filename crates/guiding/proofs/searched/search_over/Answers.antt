@@ -2,9 +2,9 @@ use Rattle.std.proofs.Common.{◌<◌, ◌∙◌, List, sym, subst, arith}
 use Rattle.incompatibilities.specs.Stores.{EntryView, entries_view}
 use Rattle.propagation.specs.Promises.{LieIn}
 use Rattle.propagation.specs.Trails.{trail_view}
-use Rattle.numbering.specs.KnownProblem.{problem}
-use Rattle.incompatibilities.specs.Counts.{combinations}
-use Rattle.guiding.specs.Counting.{HasCounted}
+use Rattle.numbering.specs.inner.KnownProblem.{problem}
+use Rattle.incompatibilities.specs.inner.Counts.{combinations}
+use Rattle.guiding.specs.inner.Counting.{HasCounted}
 use Rattle.guiding.proofs.Ended.{searched_of}
 use Rattle.guiding.proofs.searched.search_over.Goals as goal
 

@@ -1,10 +1,10 @@
 use Rattle.std.proofs.Common.{◌≡◌, ◌∙◌, None, map, ap}
 use Rattle.classes.specs.Classes.{class_view}
 use Rattle.features.specs.Views.{dependency_view}
-use Rattle.lockfile.specs.Views.{package_view, package_views}
+use Rattle.lockfile.specs.inner.Views.{package_view, package_views}
 use Rattle.model.specs.Vertices.{dep, dep_classes}
-use Rattle.numbering.specs.KnownProblem.{problem}
-use Rattle.vertices.specs.RefViews.{owner_ref_view}
+use Rattle.numbering.specs.inner.KnownProblem.{problem}
+use Rattle.vertices.specs.inner.RefViews.{owner_ref_view}
 use Rattle.guiding.proofs.InContent.{few_classes, none_led, one_led}
 use Rattle.guiding.proofs.states.class_in.Goals as goal
 

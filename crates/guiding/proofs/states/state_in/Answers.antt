@@ -1,12 +1,12 @@
 use Rattle.std.proofs.Common.{◌≡◌, ℕ, Option, sym, ap, subst}
 use Rattle.std.proofs.lemmas.Result.{IfOk-weaker}
 use Rattle.classes.specs.Classes.{class_view}
-use Rattle.lockfile.specs.Views.{package_views}
+use Rattle.lockfile.specs.inner.Views.{package_views}
 use Rattle.model.specs.Content.{Content}
 use Rattle.model.specs.Vertices.{Vertex, pkg, dep}
-use Rattle.numbering.specs.KnownProblem.{problem}
-use Rattle.vertices.specs.RefViews.{owner_ref_view, vertex_ref_view}
-use Rattle.guiding.specs.Found.{IsStateIn}
+use Rattle.numbering.specs.inner.KnownProblem.{problem}
+use Rattle.vertices.specs.inner.RefViews.{owner_ref_view, vertex_ref_view}
+use Rattle.guiding.specs.inner.Found.{IsStateIn}
 use Rattle.guiding.proofs.states.state_in.Goals as goal
 
 pub returns-in-Package : goal.returns-in-Package

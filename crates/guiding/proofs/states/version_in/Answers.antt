@@ -1,5 +1,5 @@
 use Rattle.classes.specs.Classes.{class_view}
-use Rattle.numbering.specs.KnownProblem.{problem}
+use Rattle.numbering.specs.inner.KnownProblem.{problem}
 use Rattle.guiding.proofs.InContent.{none_locked, one_locked}
 use Rattle.guiding.proofs.states.version_in.Goals as goal
 

@@ -1,6 +1,6 @@
 use Rattle.std.proofs.Common.{ℕ, IfOk, Result, Ok, Err}
 use Rattle.incompatibilities.specs.Stores.{entries_view}
-use Rattle.guiding.specs.Counting.{CountsOn}
+use Rattle.guiding.specs.inner.Counting.{CountsOn}
 use Rattle.guiding.proofs.turns.one_turn.Goals as goal
 
 at_one : {A E : Type 0} (P : ℕ → Type 0) (n : ℕ) (r : Result A E) → IfOk r (λ a. (k : ℕ) → P k) → IfOk r (λ a. P n)

@@ -1,10 +1,10 @@
 use Rattle.std.proofs.Common.{◌+◌, arith, subst}
 use Rattle.incompatibilities.specs.Stores.{entries_view}
 use Rattle.propagation.specs.Trails.{trail_view}
-use Rattle.incompatibilities.specs.Counts.{combinations}
-use Rattle.guiding.specs.Searching.{space}
-use Rattle.guiding.specs.Turning.{HasGone, HasTurned}
-use Rattle.guiding.specs.Following.{RefutesNothing}
+use Rattle.incompatibilities.specs.inner.Counts.{combinations}
+use Rattle.guiding.specs.inner.Searching.{space}
+use Rattle.guiding.specs.inner.Turning.{HasGone, HasTurned}
+use Rattle.guiding.specs.inner.Following.{RefutesNothing}
 use Rattle.guiding.proofs.Counts.{counted_up}
 use Rattle.guiding.proofs.Each.{each_falls}
 use Rattle.guiding.proofs.turns.search.Goals as goal

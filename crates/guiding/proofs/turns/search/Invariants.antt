@@ -1,10 +1,10 @@
 use Rattle.std.proofs.Common.{◌+◌}
 use Rattle.incompatibilities.specs.Stores.{entries_view}
 use Rattle.propagation.specs.Trails.{trail_view}
-use Rattle.guiding.specs.Counting.{HasCounted}
-use Rattle.incompatibilities.specs.Counts.{combinations}
-use Rattle.guiding.specs.Searching.{HasSpaces, IsCaught, IsSearching, IsSeen, space}
-use Rattle.guiding.specs.Following.{AreGiven, KeepsFollowed}
+use Rattle.guiding.specs.inner.Counting.{HasCounted}
+use Rattle.incompatibilities.specs.inner.Counts.{combinations}
+use Rattle.guiding.specs.inner.Searching.{HasSpaces, IsCaught, IsSearching, IsSeen, space}
+use Rattle.guiding.specs.inner.Following.{AreGiven, KeepsFollowed}
 use Rattle.guiding.proofs.turns.search.Given as goal
 
 abbrev pub invariant-turns : goal.invariant-turns

@@ -3,7 +3,7 @@ use Rattle.incompatibilities.specs.Stores.{entries_view, entry}
 use Rattle.propagation.specs.Trails.{trail_view}
 use Rattle.conflicts.specs.Resolving.{Resolved}
 use Rattle.conflicts.specs.declared.resolving.Outcome.TheVariants.{Learned}
-use Rattle.guiding.specs.Searching.{space}
+use Rattle.guiding.specs.inner.Searching.{space}
 use Rattle.guiding.proofs.Counts.{counts_gained}
 use Rattle.guiding.proofs.Falls.{turn_jump, turn_noted}
 use Rattle.guiding.proofs.Seen.{seen_cut, seen_longer}

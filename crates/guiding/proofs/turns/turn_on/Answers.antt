@@ -1,7 +1,7 @@
 use Rattle.std.proofs.Common.{IfSome, ℕ, ◌≡◌, ◌+◌, Some, None, true, false, refl, subst, ◌∷◌, []}
 use Rattle.incompatibilities.specs.Stores.{entries_view}
 use Rattle.propagation.specs.Trails.{trail_view}
-use Rattle.guiding.specs.Turning.{HasFallen, IsAdding, IsChosen}
+use Rattle.guiding.specs.inner.Turning.{HasFallen, IsAdding, IsChosen}
 use Rattle.guiding.proofs.Counts.{counts_axioms}
 use Rattle.guiding.proofs.Falls.{adding_trail, turn_axioms, turn_decide, wide_caught, wide_falling, wide_quiet}
 use Rattle.guiding.proofs.Falls.{wide_searching, wide_space}

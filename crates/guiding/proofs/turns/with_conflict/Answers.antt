@@ -1,6 +1,6 @@
 use Rattle.std.proofs.Common.{◌≡◌, ◌+◌, ◌<◌, add-one, ap, arith, length, sym, take, ◌∙◌}
 use Rattle.incompatibilities.specs.Stores.{entries_view, entry}
-use Rattle.incompatibilities.specs.Counts.{combinations, links_in}
+use Rattle.incompatibilities.specs.inner.Counts.{combinations, links_in}
 use Rattle.guiding.proofs.Counts.{counted_more, one_further}
 use Rattle.guiding.proofs.turns.with_conflict.Goals as goal
 

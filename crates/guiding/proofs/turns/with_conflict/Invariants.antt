@@ -1,7 +1,7 @@
 use Rattle.std.proofs.Common.{◌+◌, ◌≤◌, ◌⊎◌, take}
 use Rattle.incompatibilities.specs.Stores.{entries_view}
 use Rattle.propagation.specs.Promises.{most}
-use Rattle.incompatibilities.specs.Counts.{combinations}
+use Rattle.incompatibilities.specs.inner.Counts.{combinations}
 use Rattle.guiding.proofs.turns.with_conflict.Given as goal
 
 abbrev pub invariant-gained : goal.invariant-gained

@@ -1,7 +1,7 @@
 use Rattle.std.proofs.Common.{◌≡◌, sym, subst}
 use Rattle.terms.specs.Terms.{terms_view}
 use Rattle.incompatibilities.specs.Incompatibilities.{IsCombination, states_at}
-use Rattle.incompatibilities.specs.Merging.{merged}
+use Rattle.incompatibilities.specs.inner.Merging.{merged}
 use Rattle.incompatibilities.proofs.Broken.{lies_combined, one_is_broken}
 use Rattle.incompatibilities.proofs.Merged.{merged_is}
 use Rattle.incompatibilities.proofs.Merges.{fits_all}

@@ -1,5 +1,5 @@
 use Rattle.std.proofs.Common.{◌≡◌, ◌++◌, take, flat_map}
-use Rattle.incompatibilities.specs.Merging.{lone}
+use Rattle.incompatibilities.specs.inner.Merging.{lone}
 use Rattle.terms.specs.Terms.{terms_view}
 use Rattle.incompatibilities.proofs.combining.push_rest.Given as goal
 

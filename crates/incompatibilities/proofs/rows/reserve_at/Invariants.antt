@@ -1,5 +1,5 @@
 use Rattle.std.proofs.Common.{suc, ◌-◌, length}
-use Rattle.incompatibilities.specs.Rows.{IsGrown}
+use Rattle.incompatibilities.specs.inner.Rows.{IsGrown}
 use Rattle.incompatibilities.proofs.rows.reserve_at.Given as goal
 
 abbrev pub invariant-shorter : goal.invariant-shorter

@@ -1,6 +1,6 @@
 use Rattle.std.proofs.Common.{◌≡◌, ◌∙◌, ◌++◌, true, ap, subst}
 use Rattle.terms.specs.Terms.{terms_view}
-use Rattle.incompatibilities.specs.Rows.{listed_in, stands_in}
+use Rattle.incompatibilities.specs.inner.Rows.{listed_in, stands_in}
 use Rattle.incompatibilities.proofs.RowLemmas.{same_vertices}
 use Rattle.incompatibilities.proofs.Storing.{apart_listed}
 use Rattle.incompatibilities.proofs.store.list.Goals as goal

@@ -1,8 +1,8 @@
 use Rattle.std.proofs.Common.{rules, ◌≡◌, Ok, sym, ap, ap₂, ◌∙◌}
-use Rattle.features.specs.Tables.{dep_names_view}
+use Rattle.features.specs.inner.Tables.{dep_names_view}
 use Rattle.features.specs.Views.{dependency_views}
-use Rattle.index_reader.specs.ByParts.{dependencies_of_bytes}
-use Rattle.index_reader.specs.Items.{item_names, those_taking_part}
+use Rattle.index_reader.specs.inner.ByParts.{dependencies_of_bytes}
+use Rattle.index_reader.specs.inner.Items.{item_names, those_taking_part}
 use Rattle.index_reader.proofs.ItemsLemmas.{list-of_items}
 use Rattle.index_reader.proofs.brought.dependencies_after.Goals as goal
 

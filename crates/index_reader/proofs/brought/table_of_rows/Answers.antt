@@ -1,8 +1,8 @@
 use Rattle.std.proofs.Common.{rules, ◌≡◌, refl, sym, ap, ◌∙◌, subst}
 use Rattle.model.specs.Outcome.{Gives}
 use Rattle.model.specs.Tables.{table_of}
-use Rattle.features.specs.Tables.{dep_names_view, rows_of}
-use Rattle.index_reader.specs.Rows.{braced, row_texts, row_views}
+use Rattle.features.specs.inner.Tables.{dep_names_view, rows_of}
+use Rattle.index_reader.specs.inner.Rows.{braced, row_texts, row_views}
 use Rattle.index_reader.specs.Shapes.{wants_memory}
 use Rattle.index_reader.specs.Written.{unless_faulty}
 use Rattle.index_reader.proofs.RowsLemmas.{copies-rise, table-of_rows}

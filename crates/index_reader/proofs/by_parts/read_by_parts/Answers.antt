@@ -1,6 +1,6 @@
 use Rattle.std.proofs.Common.{◌≡◌, Ok}
 use Rattle.std.proofs.lemmas.Result.{IfOk-weaker}
-use Rattle.index_reader.specs.ByParts.{record_of_parts}
+use Rattle.index_reader.specs.inner.ByParts.{record_of_parts}
 use Rattle.index_reader.specs.Records.{unchecked_of_line}
 use Rattle.index_reader.specs.Views.{record_view}
 use Rattle.index_reader.proofs.ByPartsLemmas.{by-parts}

@@ -1,6 +1,6 @@
 use Rattle.std.proofs.Common.{◌≡◌, ◌++◌, [], ◌∷◌, ap, ◌∙◌}
 use Rattle.std.proofs.lemmas.List.{map-append}
-use Rattle.index_reader.specs.Items.{item_texts}
+use Rattle.index_reader.specs.inner.Items.{item_texts}
 use Rattle.index_reader.proofs.ItemsLemmas.{with-next}
 use Rattle.index_reader.proofs.items.items_from.Goals as goal
 

@@ -1,6 +1,6 @@
 use Rattle.std.proofs.Common.{◌≡◌, ◌<◌, ◌++◌, length}
-use Rattle.trees.specs.Parts.{between_commas}
-use Rattle.index_reader.specs.Items.{item_texts}
+use Rattle.trees.specs.inner.Parts.{between_commas}
+use Rattle.index_reader.specs.inner.Items.{item_texts}
 use Rattle.index_reader.proofs.items.items_from.Given as goal
 
 -- there is an item so far, and the texts of all of them, with what is left, are those from the first on

@@ -1,6 +1,6 @@
 use Rattle.std.proofs.Common.{◌≡◌, take}
-use Rattle.features.specs.Tables.{dep_names_view}
-use Rattle.index_reader.specs.Items.{item_names}
+use Rattle.features.specs.inner.Tables.{dep_names_view}
+use Rattle.index_reader.specs.inner.Items.{item_names}
 use Rattle.index_reader.proofs.items.names.Given as goal
 
 -- the names so far are those of the items so far

@@ -1,6 +1,6 @@
 use Rattle.std.proofs.Common.{◌≡◌, ◌++◌, drop}
 use Rattle.features.specs.Views.{dependency_views}
-use Rattle.index_reader.specs.Items.{those_taking_part}
+use Rattle.index_reader.specs.inner.Items.{those_taking_part}
 use Rattle.index_reader.proofs.items.those_taking_part.Given as goal
 
 -- those so far and those of what is left are those of all

@@ -1,5 +1,5 @@
 use Rattle.std.proofs.Common.{rules}
-use Rattle.index_reader.specs.ShapeViews.{part_view}
+use Rattle.index_reader.specs.inner.ShapeViews.{part_view}
 use Rattle.index_reader.proofs.KnownLemmas.{again_required}
 use Rattle.index_reader.proofs.line.part_required.Goals as goal
 

@@ -1,6 +1,6 @@
 use Rattle.std.proofs.Common.{rules, sym, subst}
 use Rattle.features.specs.Views.{text_views}
-use Rattle.index_reader.specs.Known.{IsMadeOf}
+use Rattle.index_reader.specs.inner.Known.{IsMadeOf}
 use Rattle.index_reader.proofs.line.read_dependency.Goals as goal
 
 pub keep-requires : goal.keep-requires

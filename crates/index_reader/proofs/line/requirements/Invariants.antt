@@ -1,6 +1,6 @@
 use Rattle.std.proofs.Common.{◌≡◌, drop}
 use Rattle.index_reader.specs.Records.{required}
-use Rattle.index_reader.specs.ShapeViews.{line_dependency_views}
+use Rattle.index_reader.specs.inner.ShapeViews.{line_dependency_views}
 use Rattle.index_reader.specs.Views.{required_views}
 use Rattle.model.proofs.Fronts.{with_front}
 use Rattle.index_reader.proofs.line.requirements.Given as goal

@@ -1,6 +1,6 @@
 use Rattle.std.proofs.Common.{sym, ◌∙◌}
-use Rattle.index_reader.specs.Made.{feature_text_view, same_feature}
-use Rattle.index_reader.specs.ShapeViews.{feature_view}
+use Rattle.index_reader.specs.inner.Made.{feature_text_view, same_feature}
+use Rattle.index_reader.specs.inner.ShapeViews.{feature_view}
 use Rattle.index_reader.proofs.MadeLemmas.{by_place, features-same}
 use Rattle.index_reader.proofs.made.are_features.Goals as goal
 

@@ -1,6 +1,6 @@
 use Rattle.std.proofs.Common.{sym, ◌∙◌}
-use Rattle.features.specs.Tables.{dep_name_view}
-use Rattle.index_reader.specs.Made.{same_name}
+use Rattle.features.specs.inner.Tables.{dep_name_view}
+use Rattle.index_reader.specs.inner.Made.{same_name}
 use Rattle.index_reader.proofs.MadeLemmas.{by_place, names-same}
 use Rattle.index_reader.proofs.made.are_names.Goals as goal
 

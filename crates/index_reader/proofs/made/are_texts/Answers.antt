@@ -1,5 +1,5 @@
 use Rattle.std.proofs.Common.{◌∙◌}
-use Rattle.features.specs.NameTexts.{text_bytes}
+use Rattle.features.specs.inner.NameTexts.{text_bytes}
 use Rattle.model.specs.Summary.{same_text}
 use Rattle.index_reader.proofs.MadeLemmas.{by_place}
 use Rattle.index_reader.proofs.made.are_texts.Goals as goal

@@ -1,6 +1,6 @@
 use Rattle.std.proofs.Common.{◌≡◌, take}
-use Rattle.index_reader.specs.Made.{feature_text_views}
-use Rattle.index_reader.specs.ShapeViews.{feature_views}
+use Rattle.index_reader.specs.inner.Made.{feature_text_views}
+use Rattle.index_reader.specs.inner.ShapeViews.{feature_views}
 use Rattle.index_reader.proofs.made.feature_texts.Given as goal
 
 -- the features so far are the first of all

@@ -1,5 +1,5 @@
 use Rattle.std.proofs.Common.{◌≡◌, map, take}
-use Rattle.features.specs.NameTexts.{text_bytes}
+use Rattle.features.specs.inner.NameTexts.{text_bytes}
 use Rattle.features.specs.Views.{text_views}
 use Rattle.index_reader.proofs.made.kept_texts.Given as goal
 

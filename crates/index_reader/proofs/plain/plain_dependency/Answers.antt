@@ -2,7 +2,7 @@ use Rattle.std.proofs.Common.{rules, ◌≡◌, true, false, Ok, Some, option_ma
 use Rattle.serde_json.specs.Data.{string}
 use Rattle.features.specs.Views.{text_views}
 use Rattle.features.specs.declared.dependency.DependencyKind.TheVariants.{Dev}
-use Rattle.index_reader.specs.Plain.{are_plain, quoted_list}
+use Rattle.index_reader.specs.inner.Plain.{are_plain, quoted_list}
 use Rattle.index_reader.specs.Shapes.{is_dev, kind_of_text, package_name_of, package_name_or_none}
 use Rattle.index_reader.proofs.PlainLemmas.{dev-shape, part-shape}
 use Rattle.index_reader.proofs.plain.plain_dependency.Goals as goal

@@ -1,6 +1,6 @@
 use Rattle.std.proofs.Common.{rules, ◌≡◌, true}
 use Rattle.features.specs.Views.{text_views}
-use Rattle.index_reader.specs.Plain.{are_plain, quoted_list}
+use Rattle.index_reader.specs.inner.Plain.{are_plain, quoted_list}
 use Rattle.index_reader.proofs.PlainLemmas.{texts-read}
 use Rattle.index_reader.proofs.row.texts_of.Goals as goal
 

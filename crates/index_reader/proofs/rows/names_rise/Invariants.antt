@@ -1,8 +1,8 @@
 use Rattle.std.proofs.Common.{◌≡◌, [], drop}
 use denote.Shadow.{shadow}
 use denote.Text.{Utf8}
-use Rattle.index_reader.specs.Rows.{row_views}
-use Rattle.trees.specs.Parts.{keys_rise}
+use Rattle.index_reader.specs.inner.Rows.{row_views}
+use Rattle.trees.specs.inner.Parts.{keys_rise}
 use Rattle.index_reader.proofs.rows.names_rise.Given as goal
 
 -- all rise where those that are left rise after the one before

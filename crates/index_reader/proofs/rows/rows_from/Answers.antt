@@ -1,6 +1,6 @@
 use Rattle.std.proofs.Common.{◌≡◌, ◌++◌, [], ◌∷◌, ap, ◌∙◌}
 use Rattle.std.proofs.lemmas.List.{map-append}
-use Rattle.index_reader.specs.Rows.{row_texts}
+use Rattle.index_reader.specs.inner.Rows.{row_texts}
 use Rattle.index_reader.proofs.ItemsLemmas.{with-next}
 use Rattle.index_reader.proofs.rows.rows_from.Goals as goal
 

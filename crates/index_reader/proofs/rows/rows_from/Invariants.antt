@@ -1,6 +1,6 @@
 use Rattle.std.proofs.Common.{◌≡◌, ◌<◌, ◌++◌, length}
-use Rattle.trees.specs.Parts.{between_commas}
-use Rattle.index_reader.specs.Rows.{row_texts}
+use Rattle.trees.specs.inner.Parts.{between_commas}
+use Rattle.index_reader.specs.inner.Rows.{row_texts}
 use Rattle.index_reader.proofs.rows.rows_from.Given as goal
 
 -- there is a feature so far, and the texts of all of them, with what is left, are those from the first on

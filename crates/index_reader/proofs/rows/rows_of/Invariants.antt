@@ -1,6 +1,6 @@
 use Rattle.std.proofs.Common.{◌≡◌, take}
-use Rattle.features.specs.Tables.{rows_of}
-use Rattle.index_reader.specs.Rows.{row_views}
+use Rattle.features.specs.inner.Tables.{rows_of}
+use Rattle.index_reader.specs.inner.Rows.{row_views}
 use Rattle.index_reader.proofs.rows.rows_of.Given as goal
 
 -- the rows so far are those of the features so far

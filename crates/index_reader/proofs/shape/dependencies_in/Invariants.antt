@@ -2,7 +2,7 @@ use Rattle.std.proofs.Common.{◌≡◌}
 use Rattle.serde_json.specs.Events.{items_len}
 use Rattle.trees.specs.Trees.{left_items}
 use Rattle.index_reader.specs.Shapes.{dependencies_in}
-use Rattle.index_reader.specs.ShapeViews.{line_dependency_views}
+use Rattle.index_reader.specs.inner.ShapeViews.{line_dependency_views}
 use Rattle.model.proofs.Fronts.{with_front}
 use Rattle.index_reader.proofs.shape.dependencies_in.Given as goal
 

@@ -1,7 +1,7 @@
 use Rattle.std.proofs.Common.{ap, ◌∙◌}
 use Rattle.std.proofs.lemmas.List.{map-append}
 use Rattle.index_reader.specs.Shapes.{features_in}
-use Rattle.index_reader.specs.ShapeViews.{feature_view, feature_views}
+use Rattle.index_reader.specs.inner.ShapeViews.{feature_view, feature_views}
 use Rattle.model.proofs.Fronts.{with_front-next}
 use Rattle.index_reader.proofs.shape.features_by_key.Goals as goal
 

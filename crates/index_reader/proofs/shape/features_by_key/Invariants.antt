@@ -1,6 +1,6 @@
 use Rattle.std.proofs.Common.{◌≡◌}
 use Rattle.index_reader.specs.Shapes.{features_in}
-use Rattle.index_reader.specs.ShapeViews.{feature_views}
+use Rattle.index_reader.specs.inner.ShapeViews.{feature_views}
 use Rattle.trees.specs.Trees.{entries_view, sorted_view}
 use Rattle.model.proofs.Fronts.{with_front}
 use Rattle.index_reader.proofs.shape.features_by_key.Given as goal

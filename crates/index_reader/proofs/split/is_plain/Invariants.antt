@@ -1,5 +1,5 @@
 use Rattle.std.proofs.Common.{◌≡◌, take}
-use Rattle.trees.specs.Parts.{is_plain}
+use Rattle.trees.specs.inner.Parts.{is_plain}
 use Rattle.index_reader.proofs.split.is_plain.Given as goal
 
 -- whether those so far are

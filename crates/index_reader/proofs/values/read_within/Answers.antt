@@ -1,4 +1,4 @@
-use Rattle.trees.specs.Parts.{data_within}
+use Rattle.trees.specs.inner.Parts.{data_within}
 use Rattle.index_reader.proofs.ReadLemmas.{found-there}
 use Rattle.index_reader.proofs.values.read_within.Goals as goal
 

@@ -1,6 +1,6 @@
 use Rattle.std.proofs.Common.{◌≡◌, take}
-use Rattle.features.specs.Tables.{dep_names_view}
-use Rattle.index_reader.specs.ShapeViews.{line_dependency_views}
+use Rattle.features.specs.inner.Tables.{dep_names_view}
+use Rattle.index_reader.specs.inner.ShapeViews.{line_dependency_views}
 use Rattle.index_reader.specs.Written.{dep_names_of}
 use Rattle.index_reader.proofs.written.dep_names.Given as goal
 

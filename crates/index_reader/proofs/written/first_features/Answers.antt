@@ -1,8 +1,8 @@
 use Rattle.std.proofs.Common.{◌∙◌, sym, subst}
 use Rattle.model.specs.Outcome.{Gives}
-use Rattle.features.specs.Tables.{rows_of}
+use Rattle.features.specs.inner.Tables.{rows_of}
 use Rattle.index_reader.specs.Shapes.{wants_memory}
-use Rattle.index_reader.specs.ShapeViews.{feature_views}
+use Rattle.index_reader.specs.inner.ShapeViews.{feature_views}
 use Rattle.index_reader.proofs.RisingLemmas.{all-rising, read-rise}
 use Rattle.index_reader.proofs.written.first_features.Goals as goal
 

@@ -1,7 +1,7 @@
 use Rattle.std.proofs.Common.{◌≡◌, [], drop}
 use denote.Shadow.{shadow}
 use denote.Text.{Utf8}
-use Rattle.index_reader.specs.ShapeViews.{feature_views}
+use Rattle.index_reader.specs.inner.ShapeViews.{feature_views}
 use Rattle.index_reader.specs.Written.{names_rise}
 use Rattle.index_reader.proofs.written.names_rise.Given as goal
 

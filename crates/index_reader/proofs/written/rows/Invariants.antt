@@ -1,6 +1,6 @@
 use Rattle.std.proofs.Common.{◌≡◌, drop}
-use Rattle.features.specs.Tables.{rows_of}
-use Rattle.index_reader.specs.ShapeViews.{feature_views}
+use Rattle.features.specs.inner.Tables.{rows_of}
+use Rattle.index_reader.specs.inner.ShapeViews.{feature_views}
 use Rattle.index_reader.specs.Written.{features_read}
 use Rattle.model.proofs.Fronts.{with_front}
 use Rattle.index_reader.proofs.written.rows.Given as goal

@@ -4,7 +4,7 @@ use Rattle.std.specs.Ordering.{nat_cmp}
 use Rattle.std.specs.Cmp.Lexicographic.{slice_cmp}
 use Rattle.std.specs.BTreeMap.{insert_entry}
 use Rattle.features.specs.EntryViews.{entry_view, entry_views}
-use Rattle.features.specs.Tables.{rows_of}
+use Rattle.features.specs.inner.Tables.{rows_of}
 use Rattle.index_reader.proofs.WrittenLemmas.{joined-set, joined-insert}
 use Rattle.index_reader.proofs.written.with_entries.Goals as goal
 

@@ -1,6 +1,6 @@
 use Rattle.std.proofs.Common.{◌≡◌, drop}
-use Rattle.features.specs.Tables.{rows_of}
-use Rattle.index_reader.specs.ShapeViews.{feature_views}
+use Rattle.features.specs.inner.Tables.{rows_of}
+use Rattle.index_reader.specs.inner.ShapeViews.{feature_views}
 use Rattle.index_reader.specs.Written.{with_features}
 use Rattle.index_reader.proofs.written.with_features.Given as goal
 

@@ -1,6 +1,6 @@
 use Rattle.std.proofs.Common.{rules, ap, sym, ◌∙◌}
-use Rattle.features.specs.Tables.{rows_of}
-use Rattle.index_reader.specs.ShapeViews.{feature_views, shape_view}
+use Rattle.features.specs.inner.Tables.{rows_of}
+use Rattle.index_reader.specs.inner.ShapeViews.{feature_views, shape_view}
 use Rattle.index_reader.proofs.WrittenLemmas.{none-viewed, nothing-more}
 use Rattle.index_reader.proofs.written.written.Goals as goal
 

@@ -1,5 +1,5 @@
 use Rattle.std.proofs.Common.{◌∙◌, ap}
-use Rattle.features.specs.Texts.{has_text}
+use Rattle.features.specs.inner.Texts.{has_text}
 use Rattle.features.proofs.DraftLemmas.{has_text-insert_key}
 use Rattle.instances.proofs.features_had.put.Goals as goal
 

@@ -1,6 +1,6 @@
 use Rattle.std.proofs.Common.{◌≡◌, ◌||◌, ℕ, List}
-use Rattle.features.specs.Tables.{rows_of}
-use Rattle.features.specs.Texts.{has_text}
+use Rattle.features.specs.inner.Tables.{rows_of}
+use Rattle.features.specs.inner.Texts.{has_text}
 use Rattle.model.specs.Summary.{has_feature}
 use Rattle.instances.proofs.features_had.put_features.Given as goal
 

@@ -1,8 +1,8 @@
 use Rattle.std.proofs.Common.{◌≡◌, ◌++◌}
 use Rattle.std.specs.Vec.Iter.{into_iter_items}
 use Rattle.model.specs.Axioms.{without_full}
-use Rattle.instances.specs.KeptViews.{problem_of}
-use Rattle.lookups.specs.TermViews.{term_views}
+use Rattle.instances.specs.inner.KeptViews.{problem_of}
+use Rattle.lookups.specs.inner.TermViews.{term_views}
 use Rattle.instances.proofs.full_terms.without_full.Given as goal
 
 -- those taken so far, with those of the terms that are left, are those of all

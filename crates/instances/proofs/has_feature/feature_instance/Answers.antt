@@ -1,7 +1,7 @@
 use Rattle.std.proofs.Common.{◌∙◌, sym}
 use Rattle.std.proofs.lemmas.Result.{IfOk-weaker}
 use Rattle.classes.specs.Classes.{class_view}
-use Rattle.instances.specs.KeptViews.{problem_of}
+use Rattle.instances.specs.inner.KeptViews.{problem_of}
 use Rattle.instances.proofs.Had.{alone_is}
 use Rattle.instances.proofs.has_feature.feature_instance.Goals as goal
 

@@ -7,9 +7,9 @@ use Rattle.semver.specs.Eval.{precedence_cmp}
 use Rattle.semver.specs.Identifiers.{parts_of}
 use Rattle.std.specs.declared.cmp.Ordering.TheVariants.{Less}
 use Rattle.std.proofs.lemmas.List.Kept.{AllPairs-filter}
-use Rattle.lookups.specs.Matching.{is_lacking}
-use Rattle.lookups.specs.Ranges.{AreRising, is_of}
-use Rattle.lookups.specs.Views.{problem_view}
+use Rattle.lookups.specs.inner.Matching.{is_lacking}
+use Rattle.lookups.specs.inner.Ranges.{AreRising, is_of}
+use Rattle.lookups.specs.inner.Views.{problem_view}
 use Rattle.instances.proofs.HasFeature.{lacking_is}
 use Rattle.instances.proofs.Rising.{absent_first}
 use Rattle.instances.proofs.has_feature.lacking_set.Goals as goal

@@ -1,10 +1,10 @@
 use Rattle.std.proofs.Common.{◌≡◌, ◌++◌, ◌∷◌, map, drop}
 use Rattle.semver.specs.Identifiers.{parts_of}
 use Rattle.model.specs.Vertices.{absent}
-use Rattle.lookups.specs.Matching.{is_lacking}
-use Rattle.lookups.specs.Ranges.{versions_with}
-use Rattle.vertices.specs.RefViews.{state_ref_views}
-use Rattle.lookups.specs.Views.{problem_view}
+use Rattle.lookups.specs.inner.Matching.{is_lacking}
+use Rattle.lookups.specs.inner.Ranges.{versions_with}
+use Rattle.vertices.specs.inner.RefViews.{state_ref_views}
+use Rattle.lookups.specs.inner.Views.{problem_view}
 use Rattle.instances.proofs.has_feature.lacking_states.Given as goal
 
 -- those taken so far, with those among the versions that are left, are those of all

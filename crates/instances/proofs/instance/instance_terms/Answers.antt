@@ -2,8 +2,8 @@ use Rattle.std.proofs.Common.{◌∙◌, ap, sym}
 use Rattle.std.proofs.lemmas.Result.{IfOk-weaker}
 use Rattle.model.specs.Axioms.{without_full}
 use Rattle.refutations.specs.Causes.{terms_of_cause}
-use Rattle.lookups.specs.CauseViews.{cause_view}
-use Rattle.instances.specs.KeptViews.{problem_of}
+use Rattle.lookups.specs.inner.CauseViews.{cause_view}
+use Rattle.instances.specs.inner.KeptViews.{problem_of}
 use Rattle.instances.proofs.instance.instance_terms.Goals as goal
 
 pub returns-in-Feature-clause-terms : goal.returns-in-Feature-clause-terms

@@ -6,9 +6,9 @@ use Rattle.semver.specs.Identifiers.{parts_of}
 use Rattle.classes.specs.Classes.{class_view}
 use Rattle.features.specs.Views.{requirement_view}
 use Rattle.model.specs.Vertices.{has_state, in_class}
-use Rattle.lookups.specs.Ranges.{AreRising, is_above}
-use Rattle.instances.specs.FullTerms.{all_if_matched}
-use Rattle.instances.specs.Keeping.{all_classes}
+use Rattle.lookups.specs.inner.Ranges.{AreRising, is_above}
+use Rattle.instances.specs.inner.FullTerms.{all_if_matched}
+use Rattle.instances.specs.inner.Keeping.{all_classes}
 use Rattle.instances.proofs.Classes.{fewer, later_rise, later_than_first, one_more, passed, taken}
 use Rattle.instances.proofs.matched_classes.add_matched.Goals as goal
 

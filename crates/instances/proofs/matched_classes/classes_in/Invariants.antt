@@ -1,9 +1,9 @@
 use Rattle.std.proofs.Common.{◌≡◌, ◌&&◌, List, length}
 use Rattle.features.specs.Views.{requirement_view}
 use Rattle.model.specs.Vertices.{State}
-use Rattle.lookups.specs.Ranges.{AreRising}
-use Rattle.instances.specs.FullTerms.{all_if_matched}
-use Rattle.instances.specs.Keeping.{all_classes}
+use Rattle.lookups.specs.inner.Ranges.{AreRising}
+use Rattle.instances.specs.inner.FullTerms.{all_if_matched}
+use Rattle.instances.specs.inner.Keeping.{all_classes}
 use Rattle.instances.proofs.matched_classes.classes_in.Given as goal
 
 -- the classes so far, with those of the versions that are left, are those of all

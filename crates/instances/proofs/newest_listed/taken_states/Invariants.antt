@@ -2,8 +2,8 @@ use Rattle.std.proofs.Common.{◌≡◌, ◌++◌, map, drop}
 use Rattle.semver.specs.Identifiers.{parts_of}
 use Rattle.features.specs.Views.{requirement_view}
 use Rattle.semver.specs.EvalViews.{matches_views}
-use Rattle.lookups.specs.Ranges.{versions_with}
-use Rattle.vertices.specs.RefViews.{state_ref_views}
+use Rattle.lookups.specs.inner.Ranges.{versions_with}
+use Rattle.vertices.specs.inner.RefViews.{state_ref_views}
 use Rattle.instances.proofs.newest_listed.taken_states.Given as goal
 
 -- those taken so far, with those among the versions that are left, are those of all

@@ -4,7 +4,7 @@ use Rattle.features.specs.Views.{dependency_view, requirement_view}
 use Rattle.classes.specs.Classes.{class_view}
 use Rattle.vertices.specs.Orders.{state_cmp}
 use Rattle.model.specs.Vertices.{absent}
-use Rattle.lookups.specs.Matching.{is_left, is_release}
+use Rattle.lookups.specs.inner.Matching.{is_left, is_release}
 use Rattle.lookups.proofs.Classed.{all_classed}
 use Rattle.instances.proofs.Rising.{absent_first}
 use Rattle.instances.proofs.Matched.{left_is}

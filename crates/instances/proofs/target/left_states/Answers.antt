@@ -4,8 +4,8 @@ use Rattle.semver.specs.Identifiers.{parts_of}
 use Rattle.semver.specs.Parse.{Parts}
 use Rattle.features.specs.Views.{requirement_view}
 use Rattle.model.specs.Vertices.{absent, version}
-use Rattle.lookups.specs.Matching.{is_left}
-use Rattle.vertices.specs.RefViews.{state_ref_views}
+use Rattle.lookups.specs.inner.Matching.{is_left}
+use Rattle.vertices.specs.inner.RefViews.{state_ref_views}
 use Rattle.instances.proofs.target.left_states.Goals as goal
 
 pub returns : goal.returns

@@ -1,7 +1,7 @@
 use Rattle.std.proofs.Common.{rules}
 use Rattle.std.proofs.lemmas.Iterator.Consumers.{map_from_collect}
 use Rattle.std.proofs.lemmas.Iterator.Splits.{YieldsList-from_slice_split}
-use Rattle.lock_faults.specs.Sides.{ends_line}
+use Rattle.lock_faults.specs.inner.Sides.{ends_line}
 use Rattle.lock_faults.proofs.marks.lines_in.Goals as goal
 
 pub returns : goal.returns

@@ -1,5 +1,5 @@
 use Rattle.std.proofs.Common.{◌≡◌, ◌++◌, drop, map}
-use Rattle.lock_faults.specs.Sides.{side_of_lines}
+use Rattle.lock_faults.specs.inner.Sides.{side_of_lines}
 use Rattle.lock_faults.specs.declared.marks.Part.TheVariants.{Both}
 use Rattle.lock_faults.proofs.marks.side_of_lines.Given as goal
 

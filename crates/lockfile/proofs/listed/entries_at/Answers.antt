@@ -1,6 +1,6 @@
 use Rattle.std.proofs.Common.{◌≡◌, ◌++◌, ◌∷◌, []}
 use Rattle.std.proofs.lemmas.List.{map-append}
-use Rattle.lockfile.specs.Written.{entry_views, listed_view, listed_views}
+use Rattle.lockfile.specs.inner.Written.{entry_views, listed_view, listed_views}
 use Rattle.lockfile.proofs.Writing.{place-there, place-none}
 use Rattle.lockfile.proofs.listed.entries_at.Goals.{in-Some+in_ok-push, in_default}
 use Rattle.lockfile.proofs.listed.entries_at.Goals as goal

@@ -1,7 +1,7 @@
 use Rattle.std.proofs.Common.{rules, sym}
 use Rattle.std.specs.Ordering.{is_lt}
 use Rattle.std.proofs.lemmas.List.Sorted.{answers_always, ranks_by}
-use Rattle.lockfile.specs.Written.{written_cmp, listed_view}
+use Rattle.lockfile.specs.inner.Written.{written_cmp, listed_view}
 use Rattle.lockfile.proofs.ListOrder.{written_total}
 use Rattle.lockfile.proofs.Stable.{in_order-stable}
 use Rattle.lockfile.proofs.listed.listed.Goals as goal

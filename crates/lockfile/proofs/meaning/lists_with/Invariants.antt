@@ -1,6 +1,6 @@
 use Rattle.std.proofs.Common.{◌≡◌, drop}
 use Rattle.lockfile.specs.Locks.{lists_of, locked_packages}
-use Rattle.lockfile.specs.Views.{list_views, unlinked_views}
+use Rattle.lockfile.specs.inner.Views.{list_views, unlinked_views}
 use Rattle.model.proofs.Fronts.{with_front}
 use Rattle.lockfile.proofs.meaning.lists_with.Given as goal
 

@@ -1,7 +1,7 @@
 use Rattle.std.proofs.Common.{◌≡◌, drop}
 use Rattle.lockfile.specs.Locks.{places_meant, locked_packages}
 use Rattle.features.specs.Views.{text_views}
-use Rattle.lockfile.specs.Views.{unlinked_views}
+use Rattle.lockfile.specs.inner.Views.{unlinked_views}
 use Rattle.model.proofs.Fronts.{with_front}
 use Rattle.lockfile.proofs.meaning.places_in.Given as goal
 

@@ -3,7 +3,7 @@ use Rattle.std.specs.Ordering.{is_lt}
 use Rattle.std.proofs.lemmas.Cmp.{is_lt_index}
 use Rattle.std.proofs.lemmas.List.Sorted.{answers_always, ranks_by}
 use Rattle.lockfile.specs.Locks.{unlinked_cmp}
-use Rattle.lockfile.specs.Views.{unlinked_view}
+use Rattle.lockfile.specs.inner.Views.{unlinked_view}
 use Rattle.lockfile.proofs.PackageOrder.{unlinked_total, packages-ordered, packages-sorted, packages-alike}
 use Rattle.lockfile.proofs.order.ordered.Goals as goal
 

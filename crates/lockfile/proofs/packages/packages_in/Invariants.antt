@@ -1,7 +1,7 @@
 use Rattle.std.proofs.Common.{◌≡◌, drop}
 use Rattle.toml.specs.View.{items_view}
 use Rattle.lockfile.specs.Locks.{unlinked_in}
-use Rattle.lockfile.specs.Views.{unlinked_views}
+use Rattle.lockfile.specs.inner.Views.{unlinked_views}
 use Rattle.model.proofs.Fronts.{with_front}
 use Rattle.lockfile.proofs.packages.packages_in.Given as goal
 

@@ -5,7 +5,7 @@ use Rattle.std.proofs.lemmas.Iterator.Adapters.{YieldsList-from_vec}
 use Rattle.std.proofs.lemmas.Iterator.Consumers.{YieldsList-at, map_from_collect}
 use Rattle.std.proofs.lemmas.Result.{IfOk-weaker}
 use Rattle.lockfile.specs.Locks.{linked}
-use Rattle.lockfile.specs.Views.{package_view, unlinked_view}
+use Rattle.lockfile.specs.inner.Views.{package_view, unlinked_view}
 use Rattle.lockfile.specs.declared.packages.UnlinkedPackage.{UnlinkedPackage}
 use Rattle.lockfile.proofs.Linking.{linked-zip}
 use Rattle.lockfile.proofs.reader.all_linked.Goals as goal

@@ -1,7 +1,7 @@
 use Rattle.std.proofs.Common.{◌≡◌, ◌++◌, map, take}
 use Rattle.std.specs.List.{flat_map}
 use Rattle.lockfile.specs.Spelling.{dependency_line}
-use Rattle.lockfile.specs.Written.{listed_views}
+use Rattle.lockfile.specs.inner.Written.{listed_views}
 use Rattle.lockfile.proofs.writer.put_dependencies.Given as goal
 
 -- the lines so far

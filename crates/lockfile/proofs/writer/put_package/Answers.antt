@@ -1,6 +1,6 @@
 use Rattle.std.proofs.Common.{◌++◌, [], map, codes}
 use Rattle.lockfile.specs.Spelling.{line, key_line, optional_line, dependency_lines}
-use Rattle.lockfile.specs.Written.{entry_view, listed_views}
+use Rattle.lockfile.specs.inner.Written.{entry_view, listed_views}
 use Rattle.lockfile.proofs.Writing.{six}
 use Rattle.lockfile.proofs.writer.put_package.Goals as goal
 

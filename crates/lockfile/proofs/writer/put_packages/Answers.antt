@@ -1,5 +1,5 @@
 use Rattle.lockfile.proofs.Writing.{then-more}
-use Rattle.lockfile.specs.Written.{written_block, written_list, entry_view, entry_views}
+use Rattle.lockfile.specs.inner.Written.{written_block, written_list, entry_view, entry_views}
 use Rattle.lockfile.proofs.writer.put_packages.Goals as goal
 
 pub entries-preserved : goal.entries-preserved

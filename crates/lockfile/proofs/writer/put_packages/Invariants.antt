@@ -1,6 +1,6 @@
 use Rattle.std.proofs.Common.{◌≡◌, ◌++◌, take}
 use Rattle.std.specs.List.{flat_map}
-use Rattle.lockfile.specs.Written.{entry_views, written_block, written_list}
+use Rattle.lockfile.specs.inner.Written.{entry_views, written_block, written_list}
 use Rattle.lockfile.proofs.writer.put_packages.Given as goal
 
 -- the packages so far

@@ -1,6 +1,6 @@
 use Rattle.std.proofs.Common.{◌≡◌, map, take}
-use Rattle.lockfile.specs.Views.{package_views}
-use Rattle.lockfile.specs.Written.{written_of, entry_views}
+use Rattle.lockfile.specs.inner.Views.{package_views}
+use Rattle.lockfile.specs.inner.Written.{written_of, entry_views}
 use Rattle.lockfile.proofs.written_package.entries.Given as goal
 
 -- the entries so far

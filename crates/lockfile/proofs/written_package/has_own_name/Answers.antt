@@ -1,5 +1,5 @@
 use Rattle.std.proofs.Common.{◌∙◌}
-use Rattle.lockfile.specs.Views.{package_view, package_views}
+use Rattle.lockfile.specs.inner.Views.{package_view, package_views}
 use Rattle.lockfile.proofs.Alone.{are-read, holds-there, name-itself, own-name}
 use Rattle.lockfile.proofs.written_package.has_own_name.Goals as goal
 

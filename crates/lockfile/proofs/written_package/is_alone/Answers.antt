@@ -1,4 +1,4 @@
-use Rattle.lockfile.specs.Views.{package_views}
+use Rattle.lockfile.specs.inner.Views.{package_views}
 use Rattle.lockfile.proofs.Alone.{alone-first, alone-last, alone-before}
 use Rattle.lockfile.proofs.written_package.is_alone.Goals as goal
 

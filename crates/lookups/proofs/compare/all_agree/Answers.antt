@@ -2,8 +2,8 @@ use Rattle.std.proofs.Common.{rules, ◌∙◌, sym}
 use Rattle.std.proofs.lemmas.Iterator.{YieldsList-from_slice}
 use Rattle.std.proofs.lemmas.Iterator.Search.{all_from_yields_List}
 use borrow.Author.Tests.{tests}
-use Rattle.refutations.specs.Terms.{agree}
-use Rattle.lookups.specs.TermViews.{term_view, term_views}
+use Rattle.refutations.specs.inner.Terms.{agree}
+use Rattle.lookups.specs.inner.TermViews.{term_view, term_views}
 use Rattle.lookups.specs.declared.term.Term.{Term}
 use Rattle.lookups.proofs.SetLaws.{all_map}
 use Rattle.lookups.proofs.compare.all_agree.Goals as goal

@@ -1,7 +1,7 @@
 use Rattle.std.proofs.Common.{◌≡◌, drop}
 use Rattle.model.specs.Derivation.{states_at}
-use Rattle.lookups.specs.TermViews.{term_views}
-use Rattle.vertices.specs.RefViews.{vertex_ref_view}
+use Rattle.lookups.specs.inner.TermViews.{term_views}
+use Rattle.vertices.specs.inner.RefViews.{vertex_ref_view}
 use Rattle.lookups.proofs.compare.states_at.Given as goal
 
 -- what the terms that are left say of the vertex is what all do

@@ -1,10 +1,10 @@
 use Rattle.std.proofs.Common.{◌∙◌, ap, sym, option_map}
 use Rattle.std.proofs.lemmas.Result.{IfOk-weaker}
 use Rattle.semver.specs.Identifiers.{parts_of}
-use Rattle.refutations.specs.Instances.{enabled_unmatched, number_read}
-use Rattle.lookups.specs.NumbersViews.{problem_of}
-use Rattle.lookups.specs.NamedByTerms.{dep_seen}
-use Rattle.lookups.specs.TermViews.{term_views}
+use Rattle.refutations.specs.inner.Instances.{enabled_unmatched, number_read}
+use Rattle.lookups.specs.inner.NumbersViews.{problem_of}
+use Rattle.lookups.specs.inner.NamedByTerms.{dep_seen}
+use Rattle.lookups.specs.inner.TermViews.{term_views}
 use Rattle.lookups.proofs.Places.{or_found}
 use Rattle.lookups.proofs.feature_on_dependency.enabled_number.Goals as goal
 

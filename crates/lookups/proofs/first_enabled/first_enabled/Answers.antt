@@ -4,10 +4,10 @@ use Rattle.features.specs.EntryViews.{entry_views}
 use Rattle.features.specs.Views.{dependency_views}
 use Rattle.model.specs.Vertices.{owner_brings, version_of}
 use Rattle.vertices.specs.declared.vertex.OwnerRef.TheVariants.{Version}
-use Rattle.lookups.specs.ByName.{is_gone}
-use Rattle.lookups.specs.Needs.{place_from}
-use Rattle.lookups.specs.Numbers.{AreGoneOf}
-use Rattle.lookups.specs.NumbersViews.{problem_of}
+use Rattle.lookups.specs.inner.ByName.{is_gone}
+use Rattle.lookups.specs.inner.Needs.{place_from}
+use Rattle.lookups.specs.inner.Numbers.{AreGoneOf}
+use Rattle.lookups.specs.inner.NumbersViews.{problem_of}
 use Rattle.lookups.proofs.ByNames.{enabled_is}
 use Rattle.lookups.proofs.Kept.{put_of}
 use Rattle.lookups.proofs.first_enabled.first_enabled.Goals as goal

@@ -1,9 +1,9 @@
 use Rattle.std.proofs.Common.{◌≡◌, ℕ, List, drop}
 use Rattle.std.specs.Option.{option_or}
 use Rattle.features.specs.Views.{dependency_views}
-use Rattle.lookups.specs.ByName.{is_gone, named}
-use Rattle.lookups.specs.Needs.{place_from}
-use Rattle.lookups.specs.Views.{problem_view}
+use Rattle.lookups.specs.inner.ByName.{is_gone, named}
+use Rattle.lookups.specs.inner.Needs.{place_from}
+use Rattle.lookups.specs.inner.Views.{problem_view}
 use Rattle.lookups.proofs.first_enabled.unmatched_by_name.Given as goal
 
 -- the first among the dependencies so far, or else among those that are left, is the first of all

@@ -2,8 +2,8 @@ use Rattle.std.proofs.Common.{sym, ap, ◌∙◌}
 use Rattle.std.specs.List.{find}
 use Rattle.refutations.specs.Causes.{enables}
 use Rattle.vertices.specs.declared.vertex.OwnerRef.TheVariants.{Version}
-use Rattle.lookups.specs.Numbers.{AreFirstOf, Row}
-use Rattle.lookups.specs.NumbersViews.{problem_of}
+use Rattle.lookups.specs.inner.Numbers.{AreFirstOf, Row}
+use Rattle.lookups.specs.inner.NumbersViews.{problem_of}
 use Rattle.lookups.proofs.Kept.{put_of_row}
 use Rattle.lookups.proofs.first_enabling.first_enabling.Goals as goal
 

@@ -3,7 +3,7 @@ use Rattle.std.specs.List.{find}
 use Rattle.std.specs.Option.{option_or}
 use Rattle.features.specs.EntryViews.{entry_views}
 use Rattle.refutations.specs.Causes.{enables}
-use Rattle.lookups.specs.ByName.{entry_named}
+use Rattle.lookups.specs.inner.ByName.{entry_named}
 use Rattle.lookups.proofs.first_enabling.first_entries.Given as goal
 
 -- the first among the entries so far, or else among those that are left, is the first of all

@@ -1,6 +1,6 @@
 use Rattle.std.proofs.Common.{◌≡◌, drop}
-use Rattle.refutations.specs.Instances.{first_read, owner_read}
-use Rattle.lookups.specs.TermViews.{term_views}
+use Rattle.refutations.specs.inner.Instances.{first_read, owner_read}
+use Rattle.lookups.specs.inner.TermViews.{term_views}
 use Rattle.lookups.proofs.named_by_terms.first_owner.Given as goal
 
 -- the first among the terms that are left is the first of all

@@ -1,7 +1,7 @@
 use Rattle.std.proofs.Common.{◌∙◌, ap, sym}
 use Rattle.std.specs.List.{list_all}
 use Rattle.semver.specs.Identifiers.{comparator_view}
-use Rattle.lookups.specs.Matching.{is_whole}
+use Rattle.lookups.specs.inner.Matching.{is_whole}
 use Rattle.lookups.proofs.Versions.{all-map}
 use Rattle.lookups.proofs.narrowing.is_whole.Goals as goal
 

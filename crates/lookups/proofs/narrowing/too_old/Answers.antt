@@ -2,7 +2,7 @@ use Rattle.std.proofs.Common.{rules}
 use Rattle.std.proofs.lemmas.List.Sorted.{IsPartitionPoint-from_clause}
 use Rattle.semver.specs.Identifiers.{parts_of}
 use Rattle.features.specs.Views.{requirement_view}
-use Rattle.catalogue.specs.Bounds.{is_short}
+use Rattle.catalogue.specs.inner.Bounds.{is_short}
 use Rattle.lookups.proofs.Narrowed.{short_parted}
 use Rattle.lookups.proofs.narrowing.too_old.Goals as goal
 

@@ -4,7 +4,7 @@ use Rattle.semver.specs.EvalViews.{matches_views}
 use Rattle.semver.specs.Identifiers.{parts_of}
 use Rattle.semver.specs.declared.Version.{Version}
 use Rattle.features.specs.Views.{requirement_view}
-use Rattle.lookups.specs.Matching.{is_release, is_whole}
+use Rattle.lookups.specs.inner.Matching.{is_release, is_whole}
 use Rattle.lookups.proofs.Convex.{ends_are}
 use Rattle.lookups.proofs.narrowing.unmatched_ends.Goals.{then-are_releases+then-is_whole, else-are_releases}
 use Rattle.lookups.proofs.narrowing.unmatched_ends.Goals as goal

@@ -1,8 +1,8 @@
 use Rattle.std.proofs.Common.{◌≡◌, drop}
 use Rattle.features.specs.Views.{dependency_views}
-use Rattle.lookups.specs.Needs.{is_needed_unmatched, place_from}
-use Rattle.lookups.specs.Views.{problem_view}
-use Rattle.vertices.specs.RefViews.{owner_ref_view}
+use Rattle.lookups.specs.inner.Needs.{is_needed_unmatched, place_from}
+use Rattle.lookups.specs.inner.Views.{problem_view}
+use Rattle.vertices.specs.inner.RefViews.{owner_ref_view}
 use Rattle.lookups.proofs.needed.first_needed.Given as goal
 
 -- the first among the dependencies that are left is the first of all

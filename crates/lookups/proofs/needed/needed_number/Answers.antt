@@ -1,10 +1,10 @@
 use Rattle.std.proofs.Common.{◌∙◌, ap, sym, option_map}
 use Rattle.std.proofs.lemmas.Result.{IfOk-weaker}
-use Rattle.refutations.specs.Instances.{needed_unmatched, number_read}
-use Rattle.lookups.specs.NumbersViews.{problem_of}
-use Rattle.lookups.specs.NamedByTerms.{dep_seen}
-use Rattle.lookups.specs.TermViews.{term_views}
-use Rattle.vertices.specs.RefViews.{owner_ref_view}
+use Rattle.refutations.specs.inner.Instances.{needed_unmatched, number_read}
+use Rattle.lookups.specs.inner.NumbersViews.{problem_of}
+use Rattle.lookups.specs.inner.NamedByTerms.{dep_seen}
+use Rattle.lookups.specs.inner.TermViews.{term_views}
+use Rattle.vertices.specs.inner.RefViews.{owner_ref_view}
 use Rattle.lookups.proofs.Places.{or_found}
 use Rattle.lookups.proofs.needed.needed_number.Goals as goal
 

@@ -1,8 +1,8 @@
 use Rattle.std.proofs.Common.{◌∙◌, sym}
 use Rattle.features.specs.Views.{dependency_views}
-use Rattle.lookups.specs.NumbersViews.{problem_of}
-use Rattle.lookups.specs.Numbers.{IsNeeded}
-use Rattle.vertices.specs.RefViews.{owner_ref_view}
+use Rattle.lookups.specs.inner.NumbersViews.{problem_of}
+use Rattle.lookups.specs.inner.Numbers.{IsNeeded}
+use Rattle.vertices.specs.inner.RefViews.{owner_ref_view}
 use Rattle.lookups.proofs.Kept.{put_of}
 use Rattle.lookups.proofs.Places.{needed_first}
 use Rattle.lookups.proofs.needed.needed_unmatched.Goals as goal

@@ -2,9 +2,9 @@ use Rattle.std.proofs.Common.{◌∙◌, sym, ap}
 use Rattle.semver.specs.Identifiers.{parts_of}
 use Rattle.model.specs.Vertices.{owner_brings}
 use Rattle.catalogue.specs.Views.{said_by}
-use Rattle.lookups.specs.Views.{problem_view}
+use Rattle.lookups.specs.inner.Views.{problem_view}
 use Rattle.features.specs.Views.{brings_view}
-use Rattle.vertices.specs.RefViews.{owner_ref_view}
+use Rattle.vertices.specs.inner.RefViews.{owner_ref_view}
 use Rattle.lookups.proofs.Brought.{not_there, is_there}
 use Rattle.lookups.proofs.owners.brings.Goals as goal
 

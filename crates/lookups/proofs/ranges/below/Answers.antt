@@ -2,7 +2,7 @@ use Rattle.std.proofs.Common.{rules}
 use Rattle.semver.specs.Identifiers.{parts_of}
 use Rattle.classes.specs.Classes.{class_view}
 use Rattle.std.proofs.lemmas.List.Sorted.{IsPartitionPoint-from_clause}
-use Rattle.lookups.specs.Ranges.{is_below}
+use Rattle.lookups.specs.inner.Ranges.{is_below}
 use Rattle.lookups.proofs.Pieces.{below_parted}
 use Rattle.lookups.proofs.ranges.below.Goals as goal
 

@@ -4,7 +4,7 @@ use Rattle.std.specs.declared.cmp.Ordering.TheVariants.{Less}
 use Rattle.std.proofs.lemmas.List.Kept.{AllPairs-filter}
 use Rattle.semver.specs.Identifiers.{parts_of}
 use Rattle.classes.specs.Classes.{class_view}
-use Rattle.lookups.specs.Ranges.{AreRising, is_of}
+use Rattle.lookups.specs.inner.Ranges.{AreRising, is_of}
 use Rattle.lookups.proofs.Pieces.{parts_filtered}
 use Rattle.lookups.proofs.ranges.class_versions.Goals as goal
 

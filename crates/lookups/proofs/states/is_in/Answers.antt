@@ -1,7 +1,7 @@
 use Rattle.std.proofs.Common.{◌∙◌, sym, rules}
 use Rattle.std.proofs.lemmas.Fn.{always_returns_same}
 use Rattle.vertices.specs.Orders.{state_cmp}
-use Rattle.vertices.specs.RefViews.{state_ref_view}
+use Rattle.vertices.specs.inner.RefViews.{state_ref_view}
 use Rattle.lookups.proofs.Searching.{state_ends, state_finds}
 use Rattle.lookups.proofs.states.is_in.Goals as goal
 

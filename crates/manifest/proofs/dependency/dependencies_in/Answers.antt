@@ -1,6 +1,6 @@
 use Rattle.std.proofs.Common.{rules}
 use Rattle.manifest.specs.Dependencies.{dependencies_in}
-use Rattle.manifest.specs.ShapeViews.{dependency_view}
+use Rattle.manifest.specs.inner.ShapeViews.{dependency_view}
 use Rattle.model.proofs.Fronts.{pushed}
 use Rattle.manifest.proofs.dependency.dependencies_in.Goals as goal
 

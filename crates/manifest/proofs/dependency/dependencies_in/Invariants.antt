@@ -1,7 +1,7 @@
 use Rattle.std.proofs.Common.{◌≡◌}
 use Rattle.toml.specs.View.{members_view}
 use Rattle.manifest.specs.Dependencies.{dependencies_in}
-use Rattle.manifest.specs.ShapeViews.{dependency_views}
+use Rattle.manifest.specs.inner.ShapeViews.{dependency_views}
 use Rattle.model.proofs.Fronts.{with_front}
 use Rattle.manifest.proofs.dependency.dependencies_in.Given as goal
 

@@ -1,7 +1,7 @@
 use Rattle.std.proofs.Common.{◌≡◌, ◌++◌}
 use Rattle.std.specs.List.Sorted.{IsStrictlySortedBy}
 use Rattle.toml.specs.View.{members_view}
-use Rattle.features.specs.Tables.{rows_of}
+use Rattle.features.specs.inner.Tables.{rows_of}
 use Rattle.model.specs.Order.{text_cmp}
 use Rattle.manifest.specs.Shapes.{features_in}
 use Rattle.model.proofs.Fronts.{with_front}

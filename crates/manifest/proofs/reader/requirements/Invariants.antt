@@ -2,7 +2,7 @@ use Rattle.std.proofs.Common.{◌≡◌}
 use Rattle.std.specs.Vec.Iter.{into_iter_items}
 use Rattle.features.specs.Views.{dependency_views}
 use Rattle.manifest.specs.Manifests.{dependencies_of}
-use Rattle.manifest.specs.ShapeViews as shaped
+use Rattle.manifest.specs.inner.ShapeViews as shaped
 use Rattle.model.proofs.Fronts.{with_front}
 use Rattle.manifest.proofs.reader.requirements.Given as goal
 

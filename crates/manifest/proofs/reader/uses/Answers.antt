@@ -4,7 +4,7 @@ use Rattle.std.proofs.lemmas.Iterator.Search.{any_from_yields_List}
 use Rattle.model.proofs.Mapped.{any-map}
 use borrow.Author.Tests.{tests}
 use Rattle.manifest.specs.Manifests.{is_from}
-use Rattle.manifest.specs.ShapeViews.{source_view}
+use Rattle.manifest.specs.inner.ShapeViews.{source_view}
 use Rattle.manifest.specs.declared.dependency.DependencyShape.{DependencyShape}
 use Rattle.manifest.proofs.reader.uses.Goals as goal
 

@@ -1,5 +1,5 @@
 use Rattle.std.proofs.Common.{◌≡◌, take, map}
-use Rattle.features.specs.Tables.{dep_names_view}
+use Rattle.features.specs.inner.Tables.{dep_names_view}
 use Rattle.features.specs.Views.{dependency_views}
 use Rattle.manifest.specs.Manifests.{dep_name}
 use Rattle.manifest.proofs.root_features.dep_names.Given as goal

@@ -1,6 +1,6 @@
 use Rattle.std.proofs.Common.{◌≡◌}
 use Rattle.toml.specs.View.{members_view}
-use Rattle.manifest_faults.specs.Reasons.{has_in_targets}
+use Rattle.manifest_faults.specs.inner.Reasons.{has_in_targets}
 use Rattle.manifest_faults.proofs.called.has_in_targets.Given as goal
 
 -- what the targets that are left say is what all say

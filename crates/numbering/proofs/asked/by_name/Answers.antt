@@ -2,10 +2,10 @@ use Rattle.std.proofs.Common.{rules, ◌≡◌, ◌++◌, ◌∷◌, List, ℕ, 
 use Rattle.std.specs.List.{flat_map}
 use Rattle.std.specs.declared.alloc.Global.{Global}
 use Rattle.features.specs.EntryViews.{entry_views}
-use Rattle.features.specs.Tables.{rows_of}
+use Rattle.features.specs.inner.Tables.{rows_of}
 use Rattle.features.specs.declared.entry.Entry.{Entry}
 use Rattle.manifest.specs.Manifests.{asked_by, root_asks}
-use Rattle.numbering.specs.Asked.{Asks, asked_in, asked_so}
+use Rattle.numbering.specs.inner.Asked.{Asks, asked_in, asked_so}
 use Rattle.numbering.proofs.AskedLaws.{asks_more}
 use Rattle.numbering.proofs.asked.by_name.Goals as goal
 

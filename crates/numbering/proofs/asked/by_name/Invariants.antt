@@ -1,8 +1,8 @@
 use Rattle.std.proofs.Common.{◌≡◌, ◌++◌, ℕ, List}
 use Rattle.std.specs.Borrow.{Bor}
-use Rattle.features.specs.Tables.{rows_of}
+use Rattle.features.specs.inner.Tables.{rows_of}
 use Rattle.manifest.specs.Manifests.{root_asks}
-use Rattle.numbering.specs.Asked.{asked_in, asked_so}
+use Rattle.numbering.specs.inner.Asked.{asked_in, asked_so}
 use Rattle.numbering.proofs.asked.by_name.Given as goal
 
 -- what is asked for so far, with what the rows that are left ask for, is all

@@ -3,7 +3,7 @@ use Rattle.std.specs.List.{flat_map}
 use Rattle.std.proofs.lemmas.List.{drop_more}
 use Rattle.features.specs.EntryViews.{entry_view, entry_views}
 use Rattle.manifest.specs.Manifests.{asked_by}
-use Rattle.numbering.specs.Asked.{asked_in, asked_so}
+use Rattle.numbering.specs.inner.Asked.{asked_in, asked_so}
 use Rattle.numbering.proofs.AskedLaws.{asks_more}
 use Rattle.numbering.proofs.asked.put_row.Goals as goal
 

@@ -3,7 +3,7 @@ use Rattle.std.specs.Borrow.{Bor}
 use Rattle.std.specs.List.{flat_map}
 use Rattle.features.specs.EntryViews.{entry_views}
 use Rattle.manifest.specs.Manifests.{asked_by}
-use Rattle.numbering.specs.Asked.{asked_in, asked_so}
+use Rattle.numbering.specs.inner.Asked.{asked_in, asked_so}
 use Rattle.numbering.proofs.asked.put_row.Given as goal
 
 -- what is asked for so far, with what the entries that are left ask for, is all

@@ -1,9 +1,9 @@
 use Rattle.std.proofs.Common.{◌≡◌, ◌∙◌, ◌+◌, ◌++◌, ◌∷◌, drop, ap, sym}
 use Rattle.std.proofs.lemmas.List.{drop_more}
 use Rattle.classes.specs.Classes.{class_view}
-use Rattle.numbering.specs.ByClass.{leading_to, numbers_in}
-use Rattle.numbering.specs.Called.{numbered_view, numbered_views}
-use Rattle.numbering.specs.MatchedViews.{problem_of}
+use Rattle.numbering.specs.inner.ByClass.{leading_to, numbers_in}
+use Rattle.numbering.specs.inner.Called.{numbered_view, numbered_views}
+use Rattle.numbering.specs.inner.MatchedViews.{problem_of}
 use Rattle.numbering.proofs.ByClassLaws.{leading_more}
 use Rattle.numbering.proofs.by_class.by_class.Goals as goal
 

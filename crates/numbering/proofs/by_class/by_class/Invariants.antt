@@ -1,9 +1,9 @@
 use Rattle.std.proofs.Common.{◌≡◌, ◌++◌, drop}
 use Rattle.classes.specs.Classes.{class_view}
 use Rattle.classes.specs.declared.class.Class as code
-use Rattle.numbering.specs.ByClass.{leading_to, numbers_in}
-use Rattle.numbering.specs.Called.{numbered_views}
-use Rattle.numbering.specs.MatchedViews.{problem_of}
+use Rattle.numbering.specs.inner.ByClass.{leading_to, numbers_in}
+use Rattle.numbering.specs.inner.Called.{numbered_views}
+use Rattle.numbering.specs.inner.MatchedViews.{problem_of}
 use Rattle.numbering.proofs.by_class.by_class.Given as goal
 
 -- what the map has so far, with the dependencies that are left, is all

@@ -1,7 +1,7 @@
 use Rattle.std.proofs.Common.{◌++◌, map}
 use Rattle.std.specs.List.{flat_map}
 use Rattle.classes.specs.Classes.{class_view}
-use Rattle.numbering.specs.ByClass.{number_if, numbers_in}
+use Rattle.numbering.specs.inner.ByClass.{number_if, numbers_in}
 use Rattle.numbering.proofs.ByClassLaws.{leading_step}
 use Rattle.numbering.proofs.by_class.put_classes.Goals as goal
 

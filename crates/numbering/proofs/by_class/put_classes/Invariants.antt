@@ -2,7 +2,7 @@ use Rattle.std.proofs.Common.{◌≡◌, ◌++◌, drop, map}
 use Rattle.std.specs.List.{flat_map}
 use Rattle.classes.specs.Classes.{class_view}
 use Rattle.classes.specs.declared.class.Class as code
-use Rattle.numbering.specs.ByClass.{number_if, numbers_in}
+use Rattle.numbering.specs.inner.ByClass.{number_if, numbers_in}
 use Rattle.numbering.proofs.by_class.put_classes.Given as goal
 
 -- what the map has so far, with the classes that are left, is all

@@ -1,7 +1,7 @@
 use Rattle.std.proofs.Common.{map, ap, ◌∙◌, subst}
 use Rattle.std.proofs.lemmas.Result.{on_ok_weaker}
 use Rattle.classes.specs.Classes.{class_view}
-use Rattle.numbering.specs.ByClass.{PutsLeading}
+use Rattle.numbering.specs.inner.ByClass.{PutsLeading}
 use Rattle.numbering.proofs.by_class.put_dependency.Goals as goal
 
 pub returns : goal.returns

@@ -1,7 +1,7 @@
 use Rattle.std.proofs.Common.{◌≡◌, ◌++◌, ℕ, List, drop}
 use Rattle.std.specs.Borrow.{Bor}
 use Rattle.features.specs.Views.{dependency_views}
-use Rattle.numbering.specs.Called.{called_in, called_so, numbered_from}
+use Rattle.numbering.specs.inner.Called.{called_in, called_so, numbered_from}
 use Rattle.numbering.proofs.called.by_name.Given as goal
 
 -- those called so among the dependencies so far, with those among the ones that are left, are all

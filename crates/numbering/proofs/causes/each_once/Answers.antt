@@ -1,7 +1,7 @@
 use Rattle.std.proofs.Common.{◌≡◌, ◌∙◌, ◌+◌, ◌∷◌, drop, ap, sym}
 use Rattle.std.proofs.lemmas.List.{drop_more}
 use Rattle.numbering.specs.GivenViews.{cause_views}
-use Rattle.numbering.specs.CausesAt.{with_causes}
+use Rattle.numbering.specs.inner.CausesAt.{with_causes}
 use Rattle.numbering.proofs.SameCauses.{cause_put}
 use Rattle.numbering.proofs.causes.each_once.Goals as goal
 

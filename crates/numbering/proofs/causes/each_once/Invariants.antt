@@ -1,6 +1,6 @@
 use Rattle.std.proofs.Common.{◌≡◌, [], drop}
 use Rattle.numbering.specs.GivenViews.{cause_views}
-use Rattle.numbering.specs.CausesAt.{with_causes}
+use Rattle.numbering.specs.inner.CausesAt.{with_causes}
 use Rattle.numbering.proofs.causes.each_once.Given as goal
 
 -- those kept so far, with those that are left, are all

@@ -6,10 +6,10 @@ use Rattle.semver.specs.Identifiers.{parts_of}
 use Rattle.features.specs.EntryViews.{entry_view}
 use Rattle.model.specs.Summary.{Dependency}
 use Rattle.model.specs.Vertices.{owner_brings, version_of}
-use Rattle.numbering.specs.Called.{called_so, numbered_from}
+use Rattle.numbering.specs.inner.Called.{called_so, numbered_from}
 use Rattle.numbering.specs.GivenViews.{cause_views}
-use Rattle.numbering.specs.CausesAt.{entry_if}
-use Rattle.numbering.specs.KnownProblem.{problem}
+use Rattle.numbering.specs.inner.CausesAt.{entry_if}
+use Rattle.numbering.specs.inner.KnownProblem.{problem}
 use Rattle.numbering.proofs.CalledLaws.{entry_called, entry_without}
 use Rattle.numbering.proofs.causes.put_each.Goals as goal
 

@@ -6,8 +6,8 @@ use Rattle.features.specs.EntryViews.{entry_view, entry_views}
 use Rattle.model.specs.Summary as model
 use Rattle.refutations.specs.Causes.{Cause}
 use Rattle.numbering.specs.GivenViews.{cause_views}
-use Rattle.numbering.specs.CausesAt.{entry_causes}
-use Rattle.numbering.specs.KnownProblem.{problem}
+use Rattle.numbering.specs.inner.CausesAt.{entry_causes}
+use Rattle.numbering.specs.inner.KnownProblem.{problem}
 use Rattle.numbering.proofs.causes.put_feature.Goals as goal
 
 pub entries-preserved : goal.entries-preserved

@@ -3,8 +3,8 @@ use Rattle.std.specs.List.{flat_map}
 use Rattle.semver.specs.Identifiers.{parts_of}
 use Rattle.features.specs.EntryViews.{entry_views}
 use Rattle.numbering.specs.GivenViews.{cause_views}
-use Rattle.numbering.specs.CausesAt.{entry_causes}
-use Rattle.numbering.specs.KnownProblem.{problem}
+use Rattle.numbering.specs.inner.CausesAt.{entry_causes}
+use Rattle.numbering.specs.inner.KnownProblem.{problem}
 use Rattle.numbering.proofs.causes.put_feature.Given as goal
 
 -- the causes so far, with those of the entries that are left, are all

@@ -1,8 +1,8 @@
 use Rattle.std.proofs.Common.{◌≡◌, ◌++◌, drop}
 use Rattle.features.specs.Views.{dependency_views}
 use Rattle.numbering.specs.GivenViews.{cause_views}
-use Rattle.numbering.specs.CausesAt.{each_from, need_if}
-use Rattle.vertices.specs.RefViews.{owner_ref_view}
+use Rattle.numbering.specs.inner.CausesAt.{each_from, need_if}
+use Rattle.vertices.specs.inner.RefViews.{owner_ref_view}
 use Rattle.numbering.proofs.causes.put_needs.Given as goal
 
 -- the causes so far, with those of the dependencies that are left, are all

@@ -3,7 +3,7 @@ use Rattle.std.specs.List.{All, flat_map}
 use Rattle.std.specs.declared.alloc.Global.{Global}
 use Rattle.std.proofs.lemmas.Option.{slice_get-get_or}
 use Rattle.semver.specs.Identifiers.{parts_of}
-use Rattle.features.specs.Tables.{rows_of}
+use Rattle.features.specs.inner.Tables.{rows_of}
 use Rattle.features.specs.EntryViews.{entry_views}
 use Rattle.features.specs.declared.entry.Entry.{Entry}
 use Rattle.features.proofs.PlaceLemmas.{entries_at-row}
@@ -13,8 +13,8 @@ use Rattle.model.specs.Tables.{IsInOrder}
 use Rattle.model.proofs.Lists.{all_first, all_rest}
 use Rattle.refutations.specs.Causes.{Cause, entries_or_none}
 use Rattle.numbering.specs.GivenViews.{cause_views}
-use Rattle.numbering.specs.CausesAt.{entry_causes, feature_causes}
-use Rattle.numbering.specs.KnownProblem.{problem}
+use Rattle.numbering.specs.inner.CausesAt.{entry_causes, feature_causes}
+use Rattle.numbering.specs.inner.KnownProblem.{problem}
 use Rattle.numbering.proofs.SameCauses.{rest_more}
 use Rattle.numbering.proofs.causes.put_rows.Goals as goal
 

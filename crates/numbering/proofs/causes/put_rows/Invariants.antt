@@ -1,11 +1,11 @@
 use Rattle.std.proofs.Common.{◌≡◌, ◌++◌, Some}
 use Rattle.std.specs.List.{All, flat_map}
 use Rattle.semver.specs.Identifiers.{parts_of}
-use Rattle.features.specs.Tables.{rows_of}
+use Rattle.features.specs.inner.Tables.{rows_of}
 use Rattle.model.specs.Summary.{entries_at}
 use Rattle.numbering.specs.GivenViews.{cause_views}
-use Rattle.numbering.specs.CausesAt.{feature_causes}
-use Rattle.numbering.specs.KnownProblem.{problem}
+use Rattle.numbering.specs.inner.CausesAt.{feature_causes}
+use Rattle.numbering.specs.inner.KnownProblem.{problem}
 use Rattle.numbering.proofs.causes.put_rows.Given as goal
 
 -- the causes so far, with those of the rows that are left, are all; the entries of a row are those of its feature

@@ -4,7 +4,7 @@ use Rattle.semver.specs.Identifiers.{parts_of}
 use Rattle.classes.specs.Classes.{class_view}
 use Rattle.features.specs.Views.{dependency_view}
 use Rattle.numbering.specs.GivenViews.{cause_views}
-use Rattle.numbering.specs.CausesAt.{weak_if}
+use Rattle.numbering.specs.inner.CausesAt.{weak_if}
 use Rattle.numbering.proofs.causes.put_weak_in.Given as goal
 
 -- the causes so far, with those of the classes that are left, are all

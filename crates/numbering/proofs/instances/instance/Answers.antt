@@ -3,9 +3,9 @@ use Rattle.terms.specs.Terms.{terms_view}
 use Rattle.model.proofs.Accepted.{instance_apart}
 use Rattle.refutations.specs.Causes.{kind_of, terms_of_cause}
 use Rattle.refutations.proofs.CauseLaws.{cause_instance}
-use Rattle.lookups.specs.CauseViews.{cause_view}
-use Rattle.numbering.specs.KnownProblem.{problem}
-use Rattle.numbering.specs.TestedTerms.{AreOfTested, tested_views}
+use Rattle.lookups.specs.inner.CauseViews.{cause_view}
+use Rattle.numbering.specs.inner.KnownProblem.{problem}
+use Rattle.numbering.specs.inner.TestedTerms.{AreOfTested, tested_views}
 use Rattle.numbering.proofs.Adds.{cause_adds}
 use Rattle.numbering.proofs.Putting.{are_numbered, cause_fits}
 use Rattle.numbering.proofs.Saying.{one_each}

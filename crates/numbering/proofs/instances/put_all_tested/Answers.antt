@@ -1,7 +1,7 @@
 use Rattle.std.proofs.Common.{◌≤◌, length, arith, refl, sym, subst}
 use Rattle.terms.specs.Terms.{terms_view}
-use Rattle.numbering.specs.KnownProblem.{problem}
-use Rattle.numbering.specs.TestedTerms.{AreOfTested, IsFitting}
+use Rattle.numbering.specs.inner.KnownProblem.{problem}
+use Rattle.numbering.specs.inner.TestedTerms.{AreOfTested, IsFitting}
 use Rattle.numbering.proofs.Adds.{tested_adds}
 use Rattle.numbering.proofs.Needing.{grows_on}
 use Rattle.numbering.proofs.Putting.{fit_at, tested_next, tested_whole}

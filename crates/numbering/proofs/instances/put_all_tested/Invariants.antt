@@ -1,8 +1,8 @@
 use Rattle.std.proofs.Common.{◌≡◌, take, Contains}
 use Rattle.terms.specs.Terms.{terms_view}
-use Rattle.numbering.specs.KnownProblem.{problem}
+use Rattle.numbering.specs.inner.KnownProblem.{problem}
 use Rattle.numbering.specs.Numberings.{AddsOnly, IsGrown, IsNumbering}
-use Rattle.numbering.specs.TestedTerms.{AreOfTested, tested_views, vertices_of}
+use Rattle.numbering.specs.inner.TestedTerms.{AreOfTested, tested_views, vertices_of}
 use Rattle.numbering.proofs.instances.put_all_tested.Given as goal
 
 -- the terms so far are of the tested terms so far

@@ -1,6 +1,6 @@
-use Rattle.numbering.specs.KnownProblem.{problem}
-use Rattle.numbering.specs.TestedTerms.{tested_view}
-use Rattle.vertices.specs.RefViews.{vertex_ref_view}
+use Rattle.numbering.specs.inner.KnownProblem.{problem}
+use Rattle.numbering.specs.inner.TestedTerms.{tested_view}
+use Rattle.vertices.specs.inner.RefViews.{vertex_ref_view}
 use Rattle.numbering.proofs.Adds.{adds_put}
 use Rattle.numbering.proofs.Putting.{tested_put, vertex_put}
 use Rattle.numbering.proofs.instances.put_tested.Goals as goal

@@ -3,7 +3,7 @@ use Rattle.std.proofs.lemmas.Iterator.{YieldsList-from_slice}
 use Rattle.std.proofs.lemmas.Iterator.Search.{all_from_yields_List}
 use borrow.Author.Tests.{tests}
 use Rattle.lookups.proofs.SetLaws.{all_map}
-use Rattle.numbering.specs.Called.{numbered_view}
+use Rattle.numbering.specs.inner.Called.{numbered_view}
 use Rattle.numbering.specs.declared.called.Numbered.{Numbered}
 use Rattle.numbering.proofs.leading.is_alone.Goals as goal
 

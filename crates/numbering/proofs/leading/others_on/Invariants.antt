@@ -1,7 +1,7 @@
 use Rattle.std.proofs.Common.{◌≡◌, ◌++◌, drop}
 use Rattle.features.specs.Views.{dependency_views}
-use Rattle.numbering.specs.Called.{numbered_from, numbered_views}
-use Rattle.numbering.specs.OnPackage.{others_on}
+use Rattle.numbering.specs.inner.Called.{numbered_from, numbered_views}
+use Rattle.numbering.specs.inner.OnPackage.{others_on}
 use Rattle.numbering.proofs.leading.others_on.Given as goal
 
 -- the others so far, with those among the dependencies that are left, are all

@@ -1,9 +1,9 @@
 use Rattle.std.proofs.Common.{◌≡◌, ◌++◌, drop, map}
 use Rattle.std.specs.List.{flat_map}
 use Rattle.classes.specs.Classes.{class_view}
-use Rattle.numbering.specs.ByClass.{newest_among}
+use Rattle.numbering.specs.inner.ByClass.{newest_among}
 use Rattle.numbering.specs.GivenViews.{cause_views}
-use Rattle.vertices.specs.RefViews.{owner_ref_view}
+use Rattle.vertices.specs.inner.RefViews.{owner_ref_view}
 use Rattle.numbering.proofs.leading.put_classes.Given as goal
 
 -- the causes so far, with those of the classes that are left, are all

@@ -1,9 +1,9 @@
 use Rattle.std.proofs.Common.{◌≡◌, ◌++◌, drop, map}
 use Rattle.refutations.specs.Causes.{of_list}
-use Rattle.numbering.specs.Asked.{features_of}
+use Rattle.numbering.specs.inner.Asked.{features_of}
 use Rattle.numbering.specs.GivenViews.{cause_views}
 use Rattle.classes.specs.Classes.{class_view}
-use Rattle.vertices.specs.RefViews.{owner_ref_view}
+use Rattle.vertices.specs.inner.RefViews.{owner_ref_view}
 use Rattle.numbering.proofs.leading.put_each_asked.Given as goal
 
 -- the causes so far, with those of the features that are left, are all

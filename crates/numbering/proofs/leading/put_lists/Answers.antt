@@ -3,10 +3,10 @@ use Rattle.features.specs.Views.{dependency_view}
 use Rattle.model.specs.Summary.{asked_of_target}
 use Rattle.refutations.specs.Causes.{of_list}
 use Rattle.numbering.specs.GivenViews.{cause_views}
-use Rattle.numbering.specs.CausesAt.{root_asked}
-use Rattle.numbering.specs.KnownProblem.{problem}
+use Rattle.numbering.specs.inner.CausesAt.{root_asked}
+use Rattle.numbering.specs.inner.KnownProblem.{problem}
 use Rattle.classes.specs.Classes.{class_view}
-use Rattle.vertices.specs.RefViews.{owner_ref_view}
+use Rattle.vertices.specs.inner.RefViews.{owner_ref_view}
 use Rattle.numbering.proofs.LeadLaws.{both_lists}
 use Rattle.numbering.proofs.leading.put_lists.Goals as goal
 

@@ -7,11 +7,11 @@ use Rattle.features.specs.Views.{dependency_view}
 use Rattle.model.specs.Content.{Problem}
 use Rattle.model.specs.Summary.{Dependency}
 use Rattle.model.specs.Vertices.{dep_classes}
-use Rattle.numbering.specs.ByClass.{newest_among}
-use Rattle.numbering.specs.Called.{numbered_views}
+use Rattle.numbering.specs.inner.ByClass.{newest_among}
+use Rattle.numbering.specs.inner.Called.{numbered_views}
 use Rattle.numbering.specs.GivenViews.{cause_views}
-use Rattle.numbering.specs.KnownProblem.{problem}
-use Rattle.vertices.specs.RefViews.{owner_ref_view}
+use Rattle.numbering.specs.inner.KnownProblem.{problem}
+use Rattle.vertices.specs.inner.RefViews.{owner_ref_view}
 use Rattle.numbering.proofs.ByClassLaws.{none_alone}
 use Rattle.numbering.proofs.leading.put_newest_among.Goals as goal
 

@@ -6,12 +6,12 @@ use Rattle.features.specs.Views.{dependency_view}
 use Rattle.model.specs.Content.{Problem}
 use Rattle.model.specs.Summary.{Dependency}
 use Rattle.model.specs.Vertices.{dep_classes, owner_brings}
-use Rattle.numbering.specs.ByClass.{newest_among}
-use Rattle.numbering.specs.Called.{numbered_from, numbered_views}
+use Rattle.numbering.specs.inner.ByClass.{newest_among}
+use Rattle.numbering.specs.inner.Called.{numbered_from, numbered_views}
 use Rattle.numbering.specs.GivenViews.{cause_views}
-use Rattle.numbering.specs.KnownProblem.{problem}
-use Rattle.numbering.specs.OnPackage.{on_package, others_on}
-use Rattle.vertices.specs.RefViews.{owner_ref_view}
+use Rattle.numbering.specs.inner.KnownProblem.{problem}
+use Rattle.numbering.specs.inner.OnPackage.{on_package, others_on}
+use Rattle.vertices.specs.inner.RefViews.{owner_ref_view}
 use Rattle.numbering.proofs.ByClassLaws.{newest_on, newest_others}
 use Rattle.numbering.proofs.leading.put_newest_anew.Goals as goal
 

@@ -6,7 +6,7 @@ use Rattle.features.specs.Views.{dependency_view}
 use Rattle.refutations.specs.Causes.{of_list}
 use Rattle.numbering.specs.GivenViews.{cause_views}
 use Rattle.classes.specs.Classes.{class_view}
-use Rattle.vertices.specs.RefViews.{owner_ref_view}
+use Rattle.vertices.specs.inner.RefViews.{owner_ref_view}
 use Rattle.numbering.proofs.LeadLaws.{own_list}
 use Rattle.numbering.proofs.leading.put_own_list.Goals as goal
 

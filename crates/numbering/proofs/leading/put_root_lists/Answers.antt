@@ -2,12 +2,12 @@ use Rattle.std.proofs.Common.{◌++◌, map, sym, ap, ◌∙◌}
 use Rattle.std.proofs.lemmas.Result.{on_ok_weaker}
 use Rattle.features.specs.Views.{dependency_view}
 use Rattle.refutations.specs.Causes.{of_list}
-use Rattle.numbering.specs.Asked.{asked_so}
+use Rattle.numbering.specs.inner.Asked.{asked_so}
 use Rattle.numbering.specs.GivenViews.{cause_views}
-use Rattle.numbering.specs.CausesAt.{root_asked}
-use Rattle.numbering.specs.KnownProblem.{problem}
+use Rattle.numbering.specs.inner.CausesAt.{root_asked}
+use Rattle.numbering.specs.inner.KnownProblem.{problem}
 use Rattle.classes.specs.Classes.{class_view}
-use Rattle.vertices.specs.RefViews.{owner_ref_view}
+use Rattle.vertices.specs.inner.RefViews.{owner_ref_view}
 use Rattle.numbering.proofs.AskedLaws.{root-asked}
 use Rattle.numbering.proofs.leading.put_root_lists.Goals as goal
 

@@ -1,6 +1,6 @@
 use Rattle.std.proofs.Common.{arith}
 use Rattle.std.specs.HashMap.Entry.{map_with_value}
-use Rattle.numbering.specs.Lists.{same_name}
+use Rattle.numbering.specs.inner.Lists.{same_name}
 use Rattle.numbering.proofs.ListLaws.{pushed, same_at}
 use Rattle.numbering.proofs.lists.put.Goals as goal
 

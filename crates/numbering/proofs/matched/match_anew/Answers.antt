@@ -2,7 +2,7 @@ use Rattle.std.proofs.Common.{◌≡◌, ◌∙◌, map, ap}
 use Rattle.std.proofs.lemmas.Result.{IfOk-weaker}
 use Rattle.classes.specs.Classes.{class_view}
 use Rattle.features.specs.Views.{dependency_view}
-use Rattle.lookups.specs.Views.{problem_view}
+use Rattle.lookups.specs.inner.Views.{problem_view}
 use Rattle.model.specs.Vertices.{dep_classes}
 use Rattle.numbering.proofs.Grouped.{classes_are, oldest_first}
 use Rattle.numbering.proofs.matched.match_anew.Goals as goal

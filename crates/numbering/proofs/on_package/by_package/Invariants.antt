@@ -1,8 +1,8 @@
 use Rattle.std.proofs.Common.{◌≡◌, ◌++◌, ℕ, List, drop}
 use Rattle.std.specs.Borrow.{Bor}
 use Rattle.features.specs.Views.{dependency_views}
-use Rattle.numbering.specs.Called.{numbered_from}
-use Rattle.numbering.specs.OnPackage.{on_in, on_package}
+use Rattle.numbering.specs.inner.Called.{numbered_from}
+use Rattle.numbering.specs.inner.OnPackage.{on_in, on_package}
 use Rattle.numbering.proofs.on_package.by_package.Given as goal
 
 -- those on a package among the dependencies so far, with those among the ones that are left, are all

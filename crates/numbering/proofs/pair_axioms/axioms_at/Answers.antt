@@ -5,12 +5,12 @@ use Rattle.std.proofs.lemmas.Result.{IfOk-weaker}
 use Rattle.model.specs.Axioms.{IsVertex}
 use Rattle.model.specs.Vertices.{Vertex}
 use Rattle.model.proofs.Members.{element}
-use Rattle.numbering.specs.Assignments.{state_at}
+use Rattle.numbering.specs.inner.Assignments.{state_at}
 use Rattle.numbering.specs.GivenViews.{given_views}
-use Rattle.numbering.specs.KnownProblem.{problem}
+use Rattle.numbering.specs.inner.KnownProblem.{problem}
 use Rattle.numbering.specs.Numberings.{AddsOnly}
 use Rattle.numbering.specs.Pairs.{IsCauseAt, IsGivenAt, IsSpokenOf}
-use Rattle.vertices.specs.RefViews.{vertex_ref_view}
+use Rattle.vertices.specs.inner.RefViews.{vertex_ref_view}
 use Rattle.numbering.proofs.pair_axioms.axioms_at.Goals as goal
 
 pub vertex_axioms-requires-clause-vertex : goal.vertex_axioms-requires-clause-vertex

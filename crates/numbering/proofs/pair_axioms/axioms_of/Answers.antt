@@ -1,9 +1,9 @@
 use Rattle.std.proofs.Common.{sym, subst}
 use Rattle.std.proofs.lemmas.Result.{IfOk-weaker}
 use Rattle.numbering.specs.GivenViews.{cause_views, given_views}
-use Rattle.numbering.specs.KnownProblem.{problem}
+use Rattle.numbering.specs.inner.KnownProblem.{problem}
 use Rattle.numbering.specs.Pairs.{Pair, AreCausesAt, AreGiven, IsGivenAt}
-use Rattle.vertices.specs.RefViews.{state_ref_view, vertex_ref_view}
+use Rattle.vertices.specs.inner.RefViews.{state_ref_view, vertex_ref_view}
 use Rattle.numbering.proofs.AddLaws.{causes_there}
 use Rattle.numbering.proofs.Adds.{pair_adds}
 use Rattle.numbering.proofs.pair_axioms.axioms_of.Goals as goal

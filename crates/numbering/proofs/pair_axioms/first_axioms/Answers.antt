@@ -3,12 +3,12 @@ use Rattle.std.specs.List.{AllByRecursion}
 use Rattle.std.proofs.lemmas.Result.{IfOk-weaker}
 use Rattle.model.specs.Vertices.{State}
 use Rattle.refutations.specs.Causes.{Cause, is_cause}
-use Rattle.numbering.specs.Assignments.{state_at}
-use Rattle.numbering.specs.CausesAt.{first_causes}
+use Rattle.numbering.specs.inner.Assignments.{state_at}
+use Rattle.numbering.specs.inner.CausesAt.{first_causes}
 use Rattle.numbering.specs.GivenViews.{cause_views, given_views}
-use Rattle.numbering.specs.KnownProblem.{problem}
+use Rattle.numbering.specs.inner.KnownProblem.{problem}
 use Rattle.numbering.specs.Pairs.{AreGiven, IsFirstGiven}
-use Rattle.vertices.specs.RefViews.{state_ref_view, vertex_ref_view}
+use Rattle.vertices.specs.inner.RefViews.{state_ref_view, vertex_ref_view}
 use Rattle.numbering.proofs.AddLaws.{all_there, state_in}
 use Rattle.numbering.proofs.CausesLaws.{first_there}
 use Rattle.numbering.proofs.pair_axioms.first_axioms.Goals as goal

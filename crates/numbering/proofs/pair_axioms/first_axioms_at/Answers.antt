@@ -5,11 +5,11 @@ use Rattle.std.proofs.lemmas.Result.{IfOk-weaker}
 use Rattle.model.specs.Axioms.{IsVertex}
 use Rattle.model.specs.Vertices.{Vertex}
 use Rattle.model.proofs.Members.{element}
-use Rattle.numbering.specs.Assignments.{state_at}
+use Rattle.numbering.specs.inner.Assignments.{state_at}
 use Rattle.numbering.specs.GivenViews.{given_views}
-use Rattle.numbering.specs.KnownProblem.{problem}
+use Rattle.numbering.specs.inner.KnownProblem.{problem}
 use Rattle.numbering.specs.Pairs.{IsFirstGiven}
-use Rattle.vertices.specs.RefViews.{vertex_ref_view}
+use Rattle.vertices.specs.inner.RefViews.{vertex_ref_view}
 use Rattle.numbering.proofs.pair_axioms.first_axioms_at.Goals as goal
 
 pub first_axioms-requires-clause-vertex : goal.first_axioms-requires-clause-vertex

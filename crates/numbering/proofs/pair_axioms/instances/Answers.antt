@@ -1,7 +1,7 @@
 use Rattle.std.proofs.Common.{◌≡◌, ◌≤◌, length, arith, refl, sym, true, subst}
 use Rattle.refutations.specs.Causes.{Cause, is_cause}
 use Rattle.numbering.specs.GivenViews.{given_views}
-use Rattle.numbering.specs.KnownProblem.{problem}
+use Rattle.numbering.specs.inner.KnownProblem.{problem}
 use Rattle.numbering.specs.Pairs.{AreGiven}
 use Rattle.numbering.proofs.Adds.{causes_add}
 use Rattle.numbering.proofs.Needing.{grows_on}

@@ -1,6 +1,6 @@
 use Rattle.std.proofs.Common.{◌≡◌, take, Contains}
 use Rattle.numbering.specs.GivenViews.{cause_views, given_views}
-use Rattle.numbering.specs.KnownProblem.{problem}
+use Rattle.numbering.specs.inner.KnownProblem.{problem}
 use Rattle.numbering.specs.Numberings.{AddsOnly, IsGrown, IsNumbering}
 use Rattle.numbering.specs.Pairs.{AreGiven, IsSpokenOf}
 use Rattle.numbering.proofs.pair_axioms.instances.Given as goal

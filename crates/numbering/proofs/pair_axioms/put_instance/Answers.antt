@@ -1,5 +1,5 @@
-use Rattle.lookups.specs.CauseViews.{cause_view}
-use Rattle.numbering.specs.KnownProblem.{problem}
+use Rattle.lookups.specs.inner.CauseViews.{cause_view}
+use Rattle.numbering.specs.inner.KnownProblem.{problem}
 use Rattle.numbering.proofs.AddLaws.{given_put}
 use Rattle.numbering.proofs.pair_axioms.put_instance.Goals as goal
 

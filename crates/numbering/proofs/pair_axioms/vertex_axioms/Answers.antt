@@ -1,12 +1,12 @@
 use Rattle.std.proofs.Common.{subst}
 use Rattle.std.proofs.lemmas.Result.{IfOk-weaker}
 use Rattle.model.specs.Vertices.{State}
-use Rattle.numbering.specs.Assignments.{state_at}
+use Rattle.numbering.specs.inner.Assignments.{state_at}
 use Rattle.numbering.specs.GivenViews.{given_views}
-use Rattle.numbering.specs.KnownProblem.{problem}
+use Rattle.numbering.specs.inner.KnownProblem.{problem}
 use Rattle.numbering.specs.Numberings.{AddsOnly}
 use Rattle.numbering.specs.Pairs.{IsCauseAt, IsGivenAt, IsSpokenOf}
-use Rattle.vertices.specs.RefViews.{state_ref_view, vertex_ref_view}
+use Rattle.vertices.specs.inner.RefViews.{state_ref_view, vertex_ref_view}
 use Rattle.numbering.proofs.AddLaws.{state_in}
 use Rattle.numbering.proofs.pair_axioms.vertex_axioms.Goals as goal
 

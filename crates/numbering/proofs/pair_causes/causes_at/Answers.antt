@@ -1,10 +1,10 @@
 use Rattle.std.proofs.Common.{◌≡◌, ◌∙◌, ◌++◌, [], ap}
 use Rattle.std.proofs.lemmas.Result.{IfOk-weaker}
 use Rattle.numbering.specs.GivenViews.{cause_views}
-use Rattle.numbering.specs.CausesAt.{causes_at, with_causes}
-use Rattle.numbering.specs.KnownProblem.{problem}
+use Rattle.numbering.specs.inner.CausesAt.{causes_at, with_causes}
+use Rattle.numbering.specs.inner.KnownProblem.{problem}
 use Rattle.numbering.specs.Pairs.{AreCausesAt}
-use Rattle.vertices.specs.RefViews.{state_ref_view, vertex_ref_view}
+use Rattle.vertices.specs.inner.RefViews.{state_ref_view, vertex_ref_view}
 use Rattle.numbering.proofs.CausesLaws.{at_exact}
 use Rattle.numbering.proofs.pair_causes.causes_at.Goals as goal
 

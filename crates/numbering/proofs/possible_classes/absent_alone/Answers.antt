@@ -1,7 +1,7 @@
 use Rattle.std.proofs.Common.{ap, ◌∙◌, map}
 use Rattle.classes.specs.Classes.{class_view}
 use Rattle.features.specs.Views.{dependency_view}
-use Rattle.numbering.specs.KnownProblem.{problem}
+use Rattle.numbering.specs.inner.KnownProblem.{problem}
 use Rattle.model.specs.Vertices.{dep_classes}
 use Rattle.numbering.proofs.Alone.{none_of_classes}
 use Rattle.numbering.proofs.possible_classes.absent_alone.Goals as goal

@@ -2,7 +2,7 @@ use Rattle.std.proofs.Common.{ap, ◌∙◌, map}
 use Rattle.classes.specs.Classes.{class_view}
 use Rattle.features.specs.Views.{dependency_view}
 use Rattle.model.specs.Vertices.{dep_classes}
-use Rattle.numbering.specs.KnownProblem.{problem}
+use Rattle.numbering.specs.inner.KnownProblem.{problem}
 use Rattle.numbering.proofs.Alone.{are_lowest, one_of_classes}
 use Rattle.numbering.proofs.possible_classes.class_alone.Goals as goal
 

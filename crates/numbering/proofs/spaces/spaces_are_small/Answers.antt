@@ -1,4 +1,4 @@
-use Rattle.numbering.specs.KnownProblem.{problem}
+use Rattle.numbering.specs.inner.KnownProblem.{problem}
 use Rattle.numbering.proofs.Putting.{spaces_few}
 use Rattle.numbering.proofs.Stated.{some_states}
 use Rattle.numbering.proofs.spaces.spaces_are_small.Goals as goal

@@ -3,8 +3,8 @@ use Rattle.std.specs.Prelude.{unwrap_or}
 use Rattle.classes.specs.Classes.{class_view}
 use Rattle.classes.specs.declared.class.Class.{Class}
 use Rattle.model.specs.Vertices.{absent, in_class}
-use Rattle.numbering.specs.KnownProblem.{problem}
-use Rattle.vertices.specs.RefViews.{owner_ref_view}
+use Rattle.numbering.specs.inner.KnownProblem.{problem}
+use Rattle.vertices.specs.inner.RefViews.{owner_ref_view}
 use Rattle.numbering.proofs.Stated.{classes_are_states}
 use Rattle.numbering.proofs.states.class_state.Goals as goal
 

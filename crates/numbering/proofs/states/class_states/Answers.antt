@@ -2,10 +2,10 @@ use Rattle.std.proofs.Common.{List, ◌∷◌, map, sym, ap, ◌∙◌}
 use Rattle.classes.specs.Classes.{class_view}
 use Rattle.classes.specs.declared.class.Class.{Class}
 use Rattle.model.specs.Vertices.{absent, in_class}
-use Rattle.numbering.specs.KnownProblem.{problem}
+use Rattle.numbering.specs.inner.KnownProblem.{problem}
 use Rattle.numbering.proofs.Stated.{classes_space}
 use Rattle.numbering.proofs.Tested.{map_map}
-use Rattle.vertices.specs.RefViews.{owner_ref_view}
+use Rattle.vertices.specs.inner.RefViews.{owner_ref_view}
 use Rattle.numbering.proofs.states.class_states.Goals as goal
 
 pub returns : goal.returns

@@ -1,7 +1,7 @@
 use Rattle.std.proofs.Common.{◌≡◌, ◌++◌, ◌∷◌, drop, map}
 use Rattle.classes.specs.Classes.{class_view}
 use Rattle.model.specs.Vertices.{absent, in_class}
-use Rattle.vertices.specs.RefViews.{state_ref_views}
+use Rattle.vertices.specs.inner.RefViews.{state_ref_views}
 use Rattle.numbering.proofs.states.with_classes.Given as goal
 
 -- the states so far, with those of the classes that are left, are all

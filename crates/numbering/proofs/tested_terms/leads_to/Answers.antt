@@ -1,10 +1,10 @@
 use Rattle.std.proofs.Common.{ap, ◌∷◌, ◌∙◌, false, map, sym}
 use Rattle.classes.specs.Classes.{class_view}
 use Rattle.model.specs.Vertices.{dep}
-use Rattle.refutations.specs.Listed.{classes_if}
-use Rattle.numbering.specs.KnownProblem.{problem}
-use Rattle.numbering.specs.TestedTerms.{is_class}
-use Rattle.vertices.specs.RefViews.{owner_ref_view}
+use Rattle.refutations.specs.inner.Listed.{classes_if}
+use Rattle.numbering.specs.inner.KnownProblem.{problem}
+use Rattle.numbering.specs.inner.TestedTerms.{is_class}
+use Rattle.vertices.specs.inner.RefViews.{owner_ref_view}
 use Rattle.numbering.proofs.Tested.{class_is}
 use Rattle.numbering.proofs.tested_terms.leads_to.Goals as goal
 

@@ -1,6 +1,6 @@
 use Rattle.std.proofs.Common.{◌∙◌}
-use Rattle.lockfile.specs.Views.{package_view}
-use Rattle.resolver.specs.Same.{same_package}
+use Rattle.lockfile.specs.inner.Views.{package_view}
+use Rattle.resolver.specs.inner.Same.{same_package}
 use Rattle.resolver.proofs.Sameness.{place_by_place}
 use Rattle.resolver.proofs.same.same_packages.Goals as goal
 

@@ -1,7 +1,7 @@
 use Rattle.std.proofs.Common.{length}
 use Rattle.incompatibilities.specs.Stores.{entries_view}
 use Rattle.propagation.specs.Trails.{trail_view}
-use Rattle.search_tests.specs.Demands.{HasCome}
+use Rattle.search_tests.specs.inner.Demands.{HasCome}
 use Rattle.search_tests.proofs.demanding.come_up_to.Given as goal
 
 abbrev pub invariant-vertices : goal.invariant-vertices

@@ -1,7 +1,7 @@
 use Rattle.std.proofs.Common.{List, ap, subst}
 use Rattle.terms.specs.Terms.{TermView, terms_view}
 use Rattle.incompatibilities.specs.Stores.{entries_view}
-use Rattle.search_tests.specs.Demands.{AllFit, HasOnly}
+use Rattle.search_tests.specs.inner.Demands.{AllFit, HasOnly}
 use Rattle.search_tests.proofs.Demanded.{put_one}
 use Rattle.search_tests.proofs.demanding.put_fitting.Goals as goal
 

@@ -3,7 +3,7 @@ use Rattle.incompatibilities.specs.Stores.{entries_view}
 use Rattle.propagation.specs.Promises.{IsNew}
 use Rattle.propagation.specs.Trails.{trail_view}
 use Rattle.guiding.proofs.Seen.{seen_none}
-use Rattle.search_tests.specs.Demands.{asked_of}
+use Rattle.search_tests.specs.inner.Demands.{asked_of}
 use Rattle.search_tests.proofs.Beginnings.{has_spaces}
 use Rattle.search_tests.proofs.Demanded.{ones_asked}
 use Rattle.search_tests.specs.declared.demanding.Pending.{Pending}

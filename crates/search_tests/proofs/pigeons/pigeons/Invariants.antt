@@ -1,5 +1,5 @@
 use Rattle.incompatibilities.specs.Stores.{entries_view}
-use Rattle.search_tests.specs.Universes.{AllLie}
+use Rattle.search_tests.specs.inner.Universes.{AllLie}
 use Rattle.search_tests.proofs.pigeons.pigeons.Given as goal
 
 abbrev pub invariant-seconds : goal.invariant-seconds

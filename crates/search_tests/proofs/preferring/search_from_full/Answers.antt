@@ -2,7 +2,7 @@ use Rattle.std.proofs.Common.{ap, arith, refl, subst, sym, true}
 use Rattle.incompatibilities.specs.Stores.{entries_view}
 use Rattle.propagation.specs.Trails.{trail_view}
 use Rattle.propagation.specs.Promises.{IsNew}
-use Rattle.search_tests.specs.Universes.{Prefers}
+use Rattle.search_tests.specs.inner.Universes.{Prefers}
 use Rattle.search_tests.proofs.Beginnings.{agrees_new, has_spaces, lie_in, selects}
 use Rattle.search_tests.proofs.preferring.search_from_full.Goals as goal
 

@@ -1,6 +1,6 @@
 use Rattle.incompatibilities.specs.Incompatibilities.{states_at}
 use Rattle.terms.specs.Terms.{terms_view}
-use Rattle.search_tests.specs.Spaces.{space}
+use Rattle.search_tests.specs.inner.Spaces.{space}
 use Rattle.incompatibilities.proofs.Broken.{lies_fit}
 use Rattle.search_tests.proofs.stores.again.Goals as goal
 

@@ -3,7 +3,7 @@ use Rattle.incompatibilities.specs.Incompatibilities.{states_at}
 use Rattle.incompatibilities.specs.Stores.{OriginFits, entries_view}
 use Rattle.incompatibilities.specs.declared.origin.Origin.TheVariants.{Axiom}
 use Rattle.terms.specs.Terms.{terms_view}
-use Rattle.search_tests.specs.Spaces.{space}
+use Rattle.search_tests.specs.inner.Spaces.{space}
 use Rattle.incompatibilities.proofs.Broken.{lies_fit}
 use Rattle.search_tests.proofs.stores.three_entries.Goals as goal
 

@@ -2,7 +2,7 @@ use Rattle.std.proofs.Common.{rules, ◌≡◌, ◌≤◌, ℕ, ◌+◌, [], ◌
 use Rattle.std.proofs.lemmas.List.{map-append}
 use Rattle.terms.specs.Terms.{TermView, term_view, terms_view}
 use Rattle.search_trials.proofs.Fitting.{AreSoFar, one_more}
-use Rattle.search_trials.specs.Meeting.{universe_at}
+use Rattle.search_trials.specs.inner.Meeting.{universe_at}
 use Rattle.search_trials.proofs.made_terms.terms_of.Goals as goal
 
 pub said-preserved : goal.said-preserved

@@ -1,6 +1,6 @@
 use Rattle.terms.specs.Terms.{terms_view}
 use Rattle.search_trials.proofs.Fitting.{AreSoFar}
-use Rattle.search_trials.specs.Meeting.{universe_at}
+use Rattle.search_trials.specs.inner.Meeting.{universe_at}
 use Rattle.search_trials.proofs.made_terms.terms_of.Given as goal
 
 abbrev pub invariant-said : goal.invariant-said

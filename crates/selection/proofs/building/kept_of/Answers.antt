@@ -1,6 +1,6 @@
 use Rattle.std.proofs.Common.{refl}
 use Rattle.catalogue.specs.Problems.{problem_in}
-use Rattle.selection.specs.Contents.{placed_views, owners_of}
+use Rattle.selection.specs.inner.Contents.{placed_views, owners_of}
 use Rattle.selection.proofs.Built.{more_kept}
 use Rattle.selection.proofs.building.kept_of.Goals as goal
 

@@ -1,5 +1,5 @@
 use Rattle.catalogue.specs.Problems.{problem_in}
-use Rattle.selection.specs.Contents.{AreKept, placed_views, owners_of}
+use Rattle.selection.specs.inner.Contents.{AreKept, placed_views, owners_of}
 use Rattle.selection.proofs.building.kept_of.Given as goal
 
 -- the packages of the places so far

@@ -1,7 +1,7 @@
 use Rattle.std.proofs.Common.{◌≡◌, ◌-◌, [], IfOk, option_map, sym, ap, subst}
 use Rattle.catalogue.specs.Problems.{problem_in}
-use Rattle.lockfile.specs.Views.{package_view}
-use Rattle.model.specs.ContentOf.{package_of}
+use Rattle.lockfile.specs.inner.Views.{package_view}
+use Rattle.model.specs.inner.ContentOf.{package_of}
 use Rattle.selection.proofs.MetVersions.{got_item, owner_at_met, no_owner}
 use Rattle.selection.proofs.RankLists.{no_item}
 use Rattle.selection.proofs.building.package_at.Goals as goal

@@ -2,9 +2,9 @@ use Rattle.std.proofs.Common.{rules}
 use Rattle.std.specs.Ordering.{is_lt}
 use Rattle.std.proofs.lemmas.List.Sorted.{answers_always, ranks_by, IsPermutation-map}
 use Rattle.model.specs.Order.{package_cmp}
-use Rattle.lockfile.specs.Views.{package_view}
+use Rattle.lockfile.specs.inner.Views.{package_view}
 use Rattle.model.proofs.PackageOrder.{package_total}
-use Rattle.selection.specs.Contents.{placed_view}
+use Rattle.selection.specs.inner.Contents.{placed_view}
 use Rattle.selection.proofs.Ordered.{in_order}
 use Rattle.selection.proofs.building.sorted.Goals as goal
 

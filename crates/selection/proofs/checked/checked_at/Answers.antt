@@ -1,5 +1,5 @@
 use Rattle.std.proofs.Common.{not, map, unwrap_or, slice_get, [], get_or, ◌∙◌, sym, ap, refl, arith}
-use Rattle.facts.specs.Graphs.{flag_at}
+use Rattle.facts.specs.inner.Graphs.{flag_at}
 use Rattle.selection.specs.declared.checked.Checked.{Checked}
 use Rattle.lockfile.specs.declared.package.Package as code
 use Rattle.selection.proofs.Judging.{place_is}

@@ -1,5 +1,5 @@
 use Rattle.std.proofs.Common.{arith, sym}
-use Rattle.lockfile.specs.Views.{package_view, package_views}
+use Rattle.lockfile.specs.inner.Views.{package_view, package_views}
 use Rattle.selection.proofs.Seconds.{view_at, root_alone, first_alone, second_by}
 use Rattle.selection.proofs.classes_once.is_second.Goals as goal
 

@@ -1,6 +1,6 @@
 use Rattle.std.proofs.Common.{◌≡◌, ◌<◌, ℕ, false, ◌&&◌, slice_get}
-use Rattle.facts.specs.Graphs.{flag_at}
-use Rattle.selection.specs.Places.{is_missing}
+use Rattle.facts.specs.inner.Graphs.{flag_at}
+use Rattle.selection.specs.inner.Places.{is_missing}
 use Rattle.selection.proofs.enabled.are_met.Given as goal
 
 -- none so far lacks a target

@@ -1,8 +1,8 @@
 use Rattle.std.proofs.Common.{◌∙◌, sym, ap, subst}
-use Rattle.lockfile.specs.Views.{package_views}
+use Rattle.lockfile.specs.inner.Views.{package_views}
 use Rattle.catalogue.specs.Problems.{problem_in}
-use Rattle.facts.specs.Graphs.{node_views, IsGraph}
-use Rattle.selection.specs.Graphs.{HasNoRoot}
+use Rattle.facts.specs.inner.Graphs.{node_views, IsGraph}
+use Rattle.selection.specs.inner.Graphs.{HasNoRoot}
 use Rattle.selection.specs.declared.findings.Findings.{Findings}
 use Rattle.selection.proofs.Holding.{graph_within}
 use Rattle.selection.proofs.Composing.{findings_are}

@@ -1,5 +1,5 @@
 use Rattle.model.specs.Walk.{Picks}
-use Rattle.selection.specs.Followed.{PicksFollowed}
+use Rattle.selection.specs.inner.Followed.{PicksFollowed}
 use Rattle.selection.proofs.Followed.{already, stands_still, still}
 use Rattle.selection.proofs.laws.enabled_dependencies_are_enough.Goals as goal
 

@@ -1,5 +1,5 @@
 use Rattle.std.proofs.Common.{◌↔◌, ℕ, Contains, IfOk, map, subst}
-use Rattle.selection.specs.Contents.{IsListed, flags_at}
+use Rattle.selection.specs.inner.Contents.{IsListed, flags_at}
 use Rattle.selection.proofs.listing.list_at.Goals as goal
 
 pub returns-clause-members : goal.returns-clause-members

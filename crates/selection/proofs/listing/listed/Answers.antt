@@ -1,6 +1,6 @@
 use Rattle.std.proofs.Common.{map}
-use Rattle.facts.specs.Graphs.{node_views}
-use Rattle.selection.specs.Contents.{placed_views}
+use Rattle.facts.specs.inner.Graphs.{node_views}
+use Rattle.selection.specs.inner.Contents.{placed_views}
 use Rattle.selection.proofs.RankLists.{listed_ok}
 use Rattle.selection.proofs.listing.listed.Goals as goal
 

@@ -1,5 +1,5 @@
 use Rattle.std.proofs.Common.{◌∙◌, None, get_or, ap}
-use Rattle.selection.specs.Contents.{rank_if}
+use Rattle.selection.specs.inner.Contents.{rank_if}
 use Rattle.selection.proofs.RankLists.{ranks_go_on}
 use Rattle.selection.proofs.listing.ranks_enabled.Goals as goal
 

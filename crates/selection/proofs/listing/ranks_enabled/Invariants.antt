@@ -1,5 +1,5 @@
 use Rattle.std.proofs.Common.{◌≡◌, ◌++◌, drop}
-use Rattle.selection.specs.Contents.{ranks_from}
+use Rattle.selection.specs.inner.Contents.{ranks_from}
 use Rattle.selection.proofs.listing.ranks_enabled.Given as goal
 
 -- those so far and those of the targets that are left are all

@@ -3,7 +3,7 @@ use Rattle.std.proofs.lemmas.List.{length-map}
 use Rattle.std.proofs.lemmas.Option.{slice_get-get_or}
 use Rattle.model.proofs.Lists.{all_get}
 use Rattle.model.proofs.Places.{map_at}
-use Rattle.selection.specs.Contents.{placed_view, placed_views, places_in}
+use Rattle.selection.specs.inner.Contents.{placed_view, placed_views, places_in}
 use Rattle.selection.proofs.RankLists.{one_rank, ranks_are}
 use Rattle.selection.proofs.listing.ranks_of.Goals as goal
 

@@ -1,4 +1,4 @@
-use Rattle.selection.specs.Contents.{placed_views, places_in}
+use Rattle.selection.specs.inner.Contents.{placed_views, places_in}
 use Rattle.selection.proofs.RankLists.{RanksTo}
 use Rattle.selection.proofs.listing.ranks_of.Given as goal
 

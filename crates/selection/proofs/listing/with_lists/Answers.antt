@@ -1,9 +1,10 @@
 use Rattle.std.proofs.Common.{◌≡◌, ◌+◌, ◌++◌, ◌∷◌, [], length, map, refl, sym, ap, ◌∙◌, subst, arith}
 use Rattle.std.proofs.lemmas.List.{append_assoc, map-append}
 use Rattle.std.specs.Vec.Iter.{into_iter_items, into_iter_len}
-use Rattle.facts.specs.Graphs.{node_views}
-use Rattle.lockfile.specs.Views.{package_view, package_views}
-use Rattle.selection.specs.Contents.{HaveLists, IsListed, IsWithList, flags_at, placed_view, placed_views, targets_at}
+use Rattle.facts.specs.inner.Graphs.{node_views}
+use Rattle.lockfile.specs.inner.Views.{package_view, package_views}
+use Rattle.selection.specs.inner.Contents.{HaveLists, IsListed, IsWithList, flags_at, placed_view, placed_views}
+use Rattle.selection.specs.inner.Contents.{targets_at}
 use Rattle.selection.proofs.RankLists.{beside_more}
 use Rattle.selection.proofs.listing.with_lists.Goals as goal
 

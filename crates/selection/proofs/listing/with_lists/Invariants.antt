@@ -1,8 +1,8 @@
 use Rattle.std.proofs.Common.{◌≡◌, ◌++◌, List, length, map}
 use Rattle.std.specs.Vec.Iter.{into_iter_items, into_iter_len}
-use Rattle.facts.specs.Graphs.{node_views}
-use Rattle.lockfile.specs.Views.{package_views}
-use Rattle.selection.specs.Contents.{HaveLists, Placed, placed_views}
+use Rattle.facts.specs.inner.Graphs.{node_views}
+use Rattle.lockfile.specs.inner.Views.{package_views}
+use Rattle.selection.specs.inner.Contents.{HaveLists, Placed, placed_views}
 use Rattle.selection.proofs.listing.with_lists.Given as goal
 
 -- those so far have their lists

@@ -1,11 +1,11 @@
 use Rattle.std.proofs.Common.{◌-◌, ◌^◌, length, map}
-use Rattle.facts.specs.Graphs.{node_views}
+use Rattle.facts.specs.inner.Graphs.{node_views}
 use Rattle.catalogue.specs.Problems.{problem_in}
-use Rattle.selection.specs.Contents.{owners_of}
+use Rattle.selection.specs.inner.Contents.{owners_of}
 use Rattle.selection.proofs.MetNodes.{SoFar}
-use Rattle.selection.specs.Followed.{PicksFollowed}
+use Rattle.selection.specs.inner.Followed.{PicksFollowed}
 use Rattle.selection.specs.Preferred.{preferred_in}
-use Rattle.selection.specs.Met.{AreOrders}
+use Rattle.selection.specs.inner.Met.{AreOrders}
 use Rattle.selection.proofs.meeting.meet.Given as goal
 
 -- each of those met so far is there once, and the first of them have their nodes; the orders that are kept are right

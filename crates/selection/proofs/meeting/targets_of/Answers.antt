@@ -2,11 +2,11 @@ use Rattle.std.proofs.Common.{◌≡◌, Some, sym, ap, ◌∙◌, subst}
 use Rattle.std.proofs.lemmas.Option.{slice_get-get_or}
 use Rattle.model.proofs.Places.{map_at}
 use Rattle.features.specs.Views.{dependency_view, dependency_views}
-use Rattle.facts.specs.Graphs.{flag_at}
-use Rattle.selection.specs.Contents.{owners_of}
-use Rattle.selection.specs.Followed.{is_followed}
+use Rattle.facts.specs.inner.Graphs.{flag_at}
+use Rattle.selection.specs.inner.Contents.{owners_of}
+use Rattle.selection.specs.inner.Followed.{is_followed}
 use Rattle.selection.specs.Preferred.{preferred_in}
-use Rattle.selection.specs.Met.{IsPickIf}
+use Rattle.selection.specs.inner.Met.{IsPickIf}
 use Rattle.selection.proofs.PickedTargets.{more_targets}
 use Rattle.selection.proofs.meeting.targets_of.Goals as goal
 

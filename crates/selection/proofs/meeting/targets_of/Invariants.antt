@@ -1,5 +1,5 @@
 use Rattle.features.specs.Views.{dependency_views}
-use Rattle.selection.specs.Met.{AreOrders}
+use Rattle.selection.specs.inner.Met.{AreOrders}
 use Rattle.selection.proofs.PickedTargets.{TargetsTo}
 use Rattle.selection.proofs.meeting.targets_of.Given as goal
 

@@ -1,6 +1,6 @@
 use Rattle.std.proofs.Common.{sym}
 use Rattle.std.proofs.lemmas.List.{length-map}
-use Rattle.lockfile.specs.Views.{package_view, package_views}
+use Rattle.lockfile.specs.inner.Views.{package_view, package_views}
 use Rattle.model.proofs.Contents.{within_at, rising_at}
 use Rattle.selection.proofs.Seconds.{view_at}
 use Rattle.selection.proofs.nodes.nodes.Goals as goal

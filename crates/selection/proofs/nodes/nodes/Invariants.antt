@@ -1,8 +1,8 @@
 use Rattle.std.proofs.Common.{◌≡◌, map, take}
-use Rattle.lockfile.specs.Views.{package_views}
+use Rattle.lockfile.specs.inner.Views.{package_views}
 use Rattle.catalogue.specs.Problems.{problem_in}
-use Rattle.facts.specs.Graphs.{node_views}
-use Rattle.selection.specs.Graphs.{node_of, is_known, are_known}
+use Rattle.facts.specs.inner.Graphs.{node_views}
+use Rattle.selection.specs.inner.Graphs.{node_of, is_known, are_known}
 use Rattle.selection.proofs.nodes.nodes.Given as goal
 
 -- the packages so far

@@ -3,7 +3,7 @@ use Rattle.std.proofs.lemmas.Option.{slice_get-map}
 use Rattle.semver.specs.Identifiers.{parts_of}
 use Rattle.features.specs.Views.{requirement_view}
 use Rattle.catalogue.proofs.Rows.{item_at}
-use Rattle.selection.specs.Met.{is_matched}
+use Rattle.selection.specs.inner.Met.{is_matched}
 use Rattle.selection.proofs.Picks.{find_yes, find_no}
 use Rattle.selection.proofs.picking.first_matched.Goals as goal
 

@@ -2,7 +2,7 @@ use Rattle.std.proofs.Common.{◌≡◌, drop, map, slice_get}
 use Rattle.std.specs.List.{find}
 use Rattle.semver.specs.Identifiers.{parts_of}
 use Rattle.features.specs.Views.{requirement_view}
-use Rattle.selection.specs.Met.{is_matched}
+use Rattle.selection.specs.inner.Met.{is_matched}
 use Rattle.selection.proofs.picking.first_matched.Given as goal
 
 -- the first among the places that are left is the first of all

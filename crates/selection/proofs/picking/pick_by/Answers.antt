@@ -1,7 +1,7 @@
 use Rattle.std.proofs.Common.{ap₂, ◌∙◌, slice_get}
 use Rattle.std.specs.List.{find}
 use Rattle.features.specs.Views.{requirement_view}
-use Rattle.selection.specs.Met.{is_matched}
+use Rattle.selection.specs.inner.Met.{is_matched}
 use Rattle.selection.proofs.picking.pick_by.Goals as goal
 
 pub returns : goal.returns

@@ -1,5 +1,5 @@
 use Rattle.std.proofs.Common.{◌≡◌, ◌++◌, take}
-use Rattle.selection.specs.Places.{rules_at}
+use Rattle.selection.specs.inner.Places.{rules_at}
 use Rattle.selection.proofs.reached.add_rules.Given as goal
 
 -- the rules so far

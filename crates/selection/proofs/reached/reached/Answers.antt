@@ -1,7 +1,7 @@
 use Rattle.std.proofs.Common.{◌≡◌, ◌↔◌, ℕ, true, length, ◌∙◌, sym, ap, subst, subst₂, arith}
 use Rattle.std.proofs.lemmas.List.{length-map}
-use Rattle.facts.specs.Chains.{has, AreBelow}
-use Rattle.lockfile.specs.Views.{package_view, package_views}
+use Rattle.facts.specs.inner.Chains.{has, AreBelow}
+use Rattle.lockfile.specs.inner.Views.{package_view, package_views}
 use Rattle.selection.proofs.Reaching.{rules_below, closed}
 use Rattle.selection.proofs.reached.reached.Goals as goal
 

@@ -1,7 +1,7 @@
 use Rattle.std.proofs.Common.{◌++◌, ◌∙◌, sym, ap}
-use Rattle.lockfile.specs.Views.{package_view, package_views}
+use Rattle.lockfile.specs.inner.Views.{package_view, package_views}
 use Rattle.lockfile.specs.declared.package.Package as code
-use Rattle.selection.specs.Places.{rules_at}
+use Rattle.selection.specs.inner.Places.{rules_at}
 use Rattle.selection.proofs.Reaching.{rules_step}
 use Rattle.selection.proofs.Seconds.{view_at}
 use Rattle.selection.proofs.reached.rules.Goals as goal

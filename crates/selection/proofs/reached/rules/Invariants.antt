@@ -1,6 +1,6 @@
 use Rattle.std.proofs.Common.{◌≡◌, take}
-use Rattle.lockfile.specs.Views.{package_views}
-use Rattle.selection.specs.Places.{rules_from}
+use Rattle.lockfile.specs.inner.Views.{package_views}
+use Rattle.selection.specs.inner.Places.{rules_from}
 use Rattle.selection.proofs.reached.rules.Given as goal
 
 -- the rules of the packages so far

@@ -1,6 +1,6 @@
 use Rattle.std.proofs.Common.{◌≡◌, ◌<◌, ℕ, Some, false, slice_get}
 use Rattle.model.specs.Content.{Package, is_root}
-use Rattle.lockfile.specs.Views.{package_views}
+use Rattle.lockfile.specs.inner.Views.{package_views}
 use Rattle.catalogue.specs.Problems.{problem_in}
 use Rattle.catalogue.specs.Stores.{CatalogueView}
 use Rattle.selection.proofs.roots.root_of.Given as goal

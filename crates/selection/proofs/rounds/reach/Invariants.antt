@@ -1,5 +1,5 @@
-use Rattle.selection.specs.Contents.{AreMetVersions}
-use Rattle.selection.specs.Met.{AreOrders}
+use Rattle.selection.specs.inner.Contents.{AreMetVersions}
+use Rattle.selection.specs.inner.Met.{AreOrders}
 use Rattle.selection.proofs.rounds.reach.Given as goal
 
 -- each of those met so far is there once; the orders that are kept are right

@@ -1,5 +1,5 @@
 use Rattle.std.proofs.Common.{◌∙◌, sym}
-use Rattle.lockfile.specs.Views.{package_view}
+use Rattle.lockfile.specs.inner.Views.{package_view}
 use Rattle.catalogue.specs.Problems.{problem_in}
 use Rattle.selection.proofs.Lookups.{brings_seen, root_brings, other_brings}
 use Rattle.model.specs.Content.{candidate_of}

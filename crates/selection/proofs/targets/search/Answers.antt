@@ -1,6 +1,6 @@
 use Rattle.std.proofs.Common.{◌-◌, arith, sym, ◌∙◌}
 use Rattle.features.specs.Views.{dependency_view}
-use Rattle.lockfile.specs.Views.{package_views}
+use Rattle.lockfile.specs.inner.Views.{package_views}
 use Rattle.selection.proofs.TargetSearch.{last_serves, last_fails, none_after, none_before}
 use Rattle.selection.proofs.targets.search.Goals as goal
 

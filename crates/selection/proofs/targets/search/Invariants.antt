@@ -1,7 +1,7 @@
 use Rattle.std.proofs.Common.{◌≡◌, ◌≤◌, take, length}
 use Rattle.model.specs.Content.{last_serving}
 use Rattle.features.specs.Views.{dependency_view}
-use Rattle.lockfile.specs.Views.{package_views}
+use Rattle.lockfile.specs.inner.Views.{package_views}
 use Rattle.selection.proofs.targets.search.Given as goal
 
 -- none of the places that were looked at serves

@@ -5,8 +5,8 @@ use Rattle.std.proofs.lemmas.Cmp.{is_lt_index}
 use Rattle.std.proofs.lemmas.List.{length-map}
 use Rattle.std.proofs.lemmas.List.Sorted.{IsPartitionPoint-from_clause}
 use Rattle.features.specs.Views.{dependency_view}
-use Rattle.lockfile.specs.Views.{package_view, package_views}
-use Rattle.selection.specs.Names.{is_past}
+use Rattle.lockfile.specs.inner.Views.{package_view, package_views}
+use Rattle.selection.specs.inner.Names.{is_past}
 use Rattle.selection.proofs.TargetSearch.{beside, less_partitioned, lower_fails, past_fails, past_partitioned}
 use Rattle.selection.proofs.targets.target.Goals as goal
 

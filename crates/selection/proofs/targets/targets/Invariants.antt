@@ -1,7 +1,7 @@
 use Rattle.std.proofs.Common.{◌≡◌, take}
 use Rattle.features.specs.Views.{dependency_views}
-use Rattle.lockfile.specs.Views.{package_views}
-use Rattle.selection.specs.Graphs.{targets_in}
+use Rattle.lockfile.specs.inner.Views.{package_views}
+use Rattle.selection.specs.inner.Graphs.{targets_in}
 use Rattle.selection.proofs.targets.targets.Given as goal
 
 -- the targets so far

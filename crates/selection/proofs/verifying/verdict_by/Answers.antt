@@ -5,8 +5,8 @@ use Rattle.selection.specs.Verdicts.{IsFaultOf}
 use Rattle.std.proofs.lemmas.Bool.{cases_lt}
 use Rattle.std.proofs.lemmas.List.{length-map}
 use Rattle.model.specs.Verdict.{IsFaultless}
-use Rattle.lockfile.specs.Views.{package_view}
-use Rattle.selection.specs.Places.{content_in, lowest}
+use Rattle.lockfile.specs.inner.Views.{package_view}
+use Rattle.selection.specs.inner.Places.{content_in, lowest}
 use Rattle.selection.proofs.LowestFault.{faultless, first_said, none_named}
 use Rattle.selection.proofs.Seconds.{view_at}
 use Rattle.selection.proofs.verifying.verdict_by.Goals as goal

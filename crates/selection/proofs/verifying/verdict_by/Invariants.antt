@@ -1,7 +1,7 @@
 use Rattle.std.proofs.Common.{◌<◌, ℕ}
 use Rattle.model.specs.Content.{Problem}
 use Rattle.model.specs.Verdict.{IsFaultless}
-use Rattle.selection.specs.Places.{content_in, AreFindings}
+use Rattle.selection.specs.inner.Places.{content_in, AreFindings}
 use Rattle.selection.proofs.verifying.verdict_by.Given as goal
 
 -- the packages so far are faultless

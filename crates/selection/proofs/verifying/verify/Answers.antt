@@ -1,7 +1,7 @@
 use Rattle.std.proofs.Common.{sym, subst}
 use Rattle.catalogue.specs.Problems.{problem_in}
 use Rattle.model.specs.WellFormed.{IsContent}
-use Rattle.selection.specs.Places.{AreFound}
+use Rattle.selection.specs.inner.Places.{AreFound}
 use Rattle.selection.proofs.Composing.{beside, said_of, rootless_said, selected}
 use Rattle.selection.proofs.verifying.verify.Goals as goal
 

@@ -1,5 +1,5 @@
 use Rattle.std.proofs.Common.{◌≡◌, take}
-use Rattle.incompatibilities.specs.Counts.{axioms}
+use Rattle.incompatibilities.specs.inner.Counts.{axioms}
 use Rattle.incompatibilities.specs.Stores.{entries_view}
 use Rattle.solver.proofs.counting.axioms_in.Given as goal
 

@@ -3,9 +3,9 @@ use Rattle.std.proofs.lemmas.Option.{slice_get-get_or}
 use Rattle.model.proofs.Places.{map_at}
 use Rattle.features.specs.Views.{dependency_view, dependency_views}
 use Rattle.propagation.specs.Trails.{trail_view}
-use Rattle.vertices.specs.RefViews.{owner_ref_view}
-use Rattle.numbering.specs.KnownProblem.{problem}
-use Rattle.solver.specs.Leads.{ends}
+use Rattle.vertices.specs.inner.RefViews.{owner_ref_view}
+use Rattle.numbering.specs.inner.KnownProblem.{problem}
+use Rattle.solver.specs.inner.Leads.{ends}
 use Rattle.solver.proofs.Led.{one_led}
 use Rattle.solver.proofs.leading.led_by.Goals as goal
 

@@ -1,8 +1,8 @@
 use Rattle.features.specs.Views.{dependency_views}
 use Rattle.propagation.specs.Trails.{trail_view}
-use Rattle.vertices.specs.RefViews.{owner_ref_view}
-use Rattle.numbering.specs.KnownProblem.{problem}
-use Rattle.solver.specs.Leads.{ends}
+use Rattle.vertices.specs.inner.RefViews.{owner_ref_view}
+use Rattle.numbering.specs.inner.KnownProblem.{problem}
+use Rattle.solver.specs.inner.Leads.{ends}
 use Rattle.solver.proofs.Led.{LedTo}
 use Rattle.solver.proofs.leading.led_by.Given as goal
 

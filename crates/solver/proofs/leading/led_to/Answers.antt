@@ -3,10 +3,10 @@ use Rattle.semver.specs.Identifiers.{parts_of}
 use Rattle.features.specs.Views.{dependency_view}
 use Rattle.classes.specs.Classes.{class_view}
 use Rattle.propagation.specs.Trails.{trail_view}
-use Rattle.vertices.specs.RefViews.{owner_ref_view}
-use Rattle.numbering.specs.KnownProblem.{problem}
+use Rattle.vertices.specs.inner.RefViews.{owner_ref_view}
+use Rattle.numbering.specs.inner.KnownProblem.{problem}
 use Rattle.model.specs.Vertices.{dep, pkg}
-use Rattle.solver.specs.Leads.{class_if, ends, version_if}
+use Rattle.solver.specs.inner.Leads.{class_if, ends, version_if}
 use Rattle.solver.proofs.Led.{found, no_class, no_version}
 use Rattle.solver.proofs.leading.led_to.Goals as goal
 

@@ -3,7 +3,7 @@ use Rattle.std.proofs.lemmas.Option.{slice_get-map, same_Some, none-some}
 use Rattle.semver.specs.Identifiers.{parts_of}
 use Rattle.model.specs.Vertices.{the_root}
 use Rattle.model.proofs.Places.{map_at}
-use Rattle.selection.specs.Contents.{owners_of}
+use Rattle.selection.specs.inner.Contents.{owners_of}
 use Rattle.selection.proofs.RankLists.{no_item}
 use Rattle.selection.proofs.MetVersions.{got_item, no_owner, no_version, owner_at_met, met_there}
 use Rattle.solver.proofs.Led.{owner_is}

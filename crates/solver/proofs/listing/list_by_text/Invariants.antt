@@ -1,5 +1,5 @@
 use Rattle.std.proofs.Common.{◌≡◌}
-use Rattle.numbering.specs.KnownProblem.{problem}
+use Rattle.numbering.specs.inner.KnownProblem.{problem}
 use Rattle.solver.specs.Refusing.{AreListed, AreSpelt}
 use Rattle.solver.proofs.listing.list_by_text.Given as goal
 

@@ -1,5 +1,5 @@
 use Rattle.std.proofs.Common.{◌≡◌, drop, length}
-use Rattle.solver.specs.Marks.{AreBelow, with_links}
+use Rattle.solver.specs.inner.Marks.{AreBelow, with_links}
 use Rattle.solver.proofs.marking.mark_links.Given as goal
 
 abbrev pub invariant-links : goal.invariant-links

@@ -1,6 +1,6 @@
 use Rattle.std.proofs.Common.{◌≤◌, suc}
 use Rattle.incompatibilities.specs.Stores.{entries_view}
-use Rattle.solver.specs.Marks.{IsMarking}
+use Rattle.solver.specs.inner.Marks.{IsMarking}
 use Rattle.solver.proofs.marking.marked.Given as goal
 
 abbrev pub invariant-entries : goal.invariant-entries

@@ -1,15 +1,15 @@
 use Rattle.std.proofs.Common.{◌≡◌, List, ◌∷◌, [], Some, length, nat_eq, slice_get, sym, ap, ◌∙◌, subst, arith}
 use Rattle.std.proofs.lemmas.List.{length-map, map-append, length-append}
-use Rattle.facts.specs.Graphs.{node_view, node_views}
+use Rattle.facts.specs.inner.Graphs.{node_view, node_views}
 use Rattle.features.specs.Views.{dependency_views}
 use Rattle.propagation.specs.Trails.{trail_view}
-use Rattle.model.specs.Search.{LeadsTo}
+use Rattle.model.specs.inner.Search.{LeadsTo}
 use Rattle.model.specs.Summary.{Dependency}
-use Rattle.facts.specs.Nodes.{AreLeads}
-use Rattle.numbering.specs.KnownProblem.{problem}
-use Rattle.selection.specs.Contents.{owners_of}
+use Rattle.facts.specs.inner.Nodes.{AreLeads}
+use Rattle.numbering.specs.inner.KnownProblem.{problem}
+use Rattle.selection.specs.inner.Contents.{owners_of}
 use Rattle.selection.proofs.MetNodes.{begun, one_more, all_met, owner_next}
-use Rattle.solver.specs.Leads.{AreThere, ends}
+use Rattle.solver.specs.inner.Leads.{AreThere, ends}
 use Rattle.solver.proofs.Led.{led_there, leads_of}
 use Rattle.solver.proofs.meeting.meet.Goals as goal
 

@@ -1,9 +1,9 @@
 use Rattle.std.proofs.Common.{◌-◌, ◌^◌, length}
-use Rattle.facts.specs.Graphs.{node_views}
+use Rattle.facts.specs.inner.Graphs.{node_views}
 use Rattle.propagation.specs.Trails.{trail_view}
-use Rattle.model.specs.Search.{LeadsTo}
-use Rattle.numbering.specs.KnownProblem.{problem}
-use Rattle.solver.specs.Leads.{ends}
+use Rattle.model.specs.inner.Search.{LeadsTo}
+use Rattle.numbering.specs.inner.KnownProblem.{problem}
+use Rattle.solver.specs.inner.Leads.{ends}
 use Rattle.selection.proofs.MetNodes.{SoFar}
 use Rattle.solver.proofs.meeting.meet.Given as goal
 

@@ -1,8 +1,8 @@
 use Rattle.std.proofs.Common.{subst, arith}
 use Rattle.incompatibilities.specs.Stores.{entries_view}
-use Rattle.solver.specs.Flats.{flats_view}
-use Rattle.numbering.specs.KnownProblem.{problem}
-use Rattle.solver.specs.Steps.{AreStepsOf}
+use Rattle.solver.specs.inner.Flats.{flats_view}
+use Rattle.numbering.specs.inner.KnownProblem.{problem}
+use Rattle.solver.specs.inner.Steps.{AreStepsOf}
 use Rattle.solver.proofs.CountedSteps.{no_more}
 use Rattle.solver.proofs.refuting.refusal.Goals as goal
 

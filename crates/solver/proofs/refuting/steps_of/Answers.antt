@@ -1,11 +1,11 @@
 use Rattle.std.proofs.Common.{◌≡◌, ◌≤◌, ◌<◌, ◌++◌, ◌∷◌, [], length, sym, subst, arith, ◌∙◌}
 use Rattle.std.proofs.lemmas.List.{length-map}
 use Rattle.incompatibilities.specs.Stores.{entries_view}
-use Rattle.solver.specs.Flats.{flat_view, flats_view}
+use Rattle.solver.specs.inner.Flats.{flat_view, flats_view}
 use Rattle.solver.proofs.FlatRows.{flat_read}
 use Rattle.model.specs.Derivation.{Step}
-use Rattle.numbering.specs.KnownProblem.{problem}
-use Rattle.solver.specs.Steps.{AreStepsOf, IsStepOf}
+use Rattle.numbering.specs.inner.KnownProblem.{problem}
+use Rattle.solver.specs.inner.Steps.{AreStepsOf, IsStepOf}
 use Rattle.solver.specs.Refusing.{IsNext}
 use Rattle.solver.proofs.NewTerms.{vertices_read}
 use Rattle.solver.proofs.Places.{all_at, more_at, next_at}

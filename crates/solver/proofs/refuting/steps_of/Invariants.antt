@@ -1,7 +1,7 @@
 use Rattle.std.proofs.Common.{take}
-use Rattle.solver.specs.Flats.{flats_view}
-use Rattle.numbering.specs.KnownProblem.{problem}
-use Rattle.solver.specs.Steps.{AreStepsOf}
+use Rattle.solver.specs.inner.Flats.{flats_view}
+use Rattle.numbering.specs.inner.KnownProblem.{problem}
+use Rattle.solver.specs.inner.Steps.{AreStepsOf}
 use Rattle.solver.specs.Refusing.{AreListed, AreSpelt}
 use Rattle.solver.proofs.refuting.steps_of.Given as goal
 

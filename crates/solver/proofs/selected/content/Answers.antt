@@ -1,14 +1,14 @@
 use Rattle.std.proofs.Common.{IfOk, map, refl}
 use Rattle.std.proofs.lemmas.Result.{IfOk-weaker}
-use Rattle.facts.specs.Graphs.{node_views}
+use Rattle.facts.specs.inner.Graphs.{node_views}
 use Rattle.propagation.specs.Trails.{trail_view}
-use Rattle.model.specs.Search.{LeadsTo}
+use Rattle.model.specs.inner.Search.{LeadsTo}
 use Rattle.facts.specs.Built.{IsBuilt}
-use Rattle.facts.specs.Nodes.{AreFlags}
+use Rattle.facts.specs.inner.Nodes.{AreFlags}
 use Rattle.facts.proofs.Found.{stands}
-use Rattle.numbering.specs.KnownProblem.{problem}
-use Rattle.selection.specs.Contents.{owners_of}
-use Rattle.solver.specs.Leads.{ends}
+use Rattle.numbering.specs.inner.KnownProblem.{problem}
+use Rattle.selection.specs.inner.Contents.{owners_of}
+use Rattle.solver.specs.inner.Leads.{ends}
 use Rattle.solver.proofs.Assigned.{packages_assigned}
 use Rattle.solver.proofs.Brought.{root_brings}
 use Rattle.solver.proofs.selected.content.Given.{Over}

@@ -1,7 +1,7 @@
 use Rattle.std.proofs.Common.{◌≡◌, arith, false, is_some, length, rules, subst, sym, true}
 use Rattle.std.proofs.lemmas.Result.{IfOk-weaker}
-use Rattle.numbering.specs.KnownProblem.{problem}
-use Rattle.guiding.specs.Guides.{HasSearched}
+use Rattle.numbering.specs.inner.KnownProblem.{problem}
+use Rattle.guiding.specs.inner.Guides.{HasSearched}
 use Rattle.incompatibilities.specs.Stores.{entries_view}
 use Rattle.propagation.specs.Trails.{trail_view}
 use Rattle.solver.specs.Refusing.{HasNoMore}

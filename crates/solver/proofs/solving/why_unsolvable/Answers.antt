@@ -1,6 +1,6 @@
 use Rattle.std.proofs.lemmas.Result.{IfOk-weaker}
 use Rattle.model.specs.Derivation.{IsAccepted}
-use Rattle.numbering.specs.KnownProblem.{problem}
+use Rattle.numbering.specs.inner.KnownProblem.{problem}
 use Rattle.solver.specs.Solving.{IsUnsolvable}
 use Rattle.solver.proofs.solving.why_unsolvable.Goals as goal
 

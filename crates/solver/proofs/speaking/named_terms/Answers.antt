@@ -1,6 +1,6 @@
 use Rattle.std.proofs.Common.{arith, ap}
 use Rattle.model.specs.Axioms.{at}
-use Rattle.vertices.specs.RefViews.{state_ref_views}
+use Rattle.vertices.specs.inner.RefViews.{state_ref_views}
 use Rattle.solver.proofs.Sized.{all_refs, refs_more}
 use Rattle.solver.proofs.speaking.named_terms.Goals as goal
 

@@ -1,5 +1,5 @@
 use Rattle.std.proofs.Common.{◌≡◌, take}
-use Rattle.derivations.specs.Named.{named_views}
+use Rattle.derivations.specs.inner.Named.{named_views}
 use Rattle.solver.specs.Refusing.{spoken_views}
 use Rattle.solver.proofs.speaking.named_terms.Given as goal
 

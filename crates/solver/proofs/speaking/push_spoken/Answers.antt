@@ -1,9 +1,9 @@
 use Rattle.std.proofs.Common.{◌≡◌, [], ◌∷◌, ◌++◌, append-nil, Some, slice_get, sym, ap, ◌∙◌}
 use Rattle.std.specs.Prelude.{option_map}
 use Rattle.std.proofs.lemmas.List.{map-append}
-use Rattle.vertices.specs.RefViews.{vertex_ref_view}
-use Rattle.numbering.specs.KnownProblem.{problem}
-use Rattle.solver.specs.Decoding.{size_of, with_term}
+use Rattle.vertices.specs.inner.RefViews.{vertex_ref_view}
+use Rattle.numbering.specs.inner.KnownProblem.{problem}
+use Rattle.solver.specs.inner.Decoding.{size_of, with_term}
 use Rattle.solver.specs.Refusing.{spoken_view, spoken_views}
 use Rattle.solver.proofs.speaking.push_spoken.Goals as goal
 

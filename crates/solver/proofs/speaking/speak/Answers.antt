@@ -1,9 +1,9 @@
 use Rattle.std.proofs.Common.{◌≡◌, ap, ap₂, ◌∙◌}
 use Rattle.model.specs.Axioms.{at}
 use Rattle.model.specs.Vertices.{space}
-use Rattle.vertices.specs.RefViews.{state_ref_view, state_ref_views, vertex_ref_view}
-use Rattle.numbering.specs.KnownProblem.{problem}
-use Rattle.solver.specs.Decoding.{states_in}
+use Rattle.vertices.specs.inner.RefViews.{state_ref_view, state_ref_views, vertex_ref_view}
+use Rattle.numbering.specs.inner.KnownProblem.{problem}
+use Rattle.solver.specs.inner.Decoding.{states_in}
 use Rattle.solver.proofs.Sized.{map_chosen}
 use Rattle.solver.proofs.speaking.speak.Goals as goal
 

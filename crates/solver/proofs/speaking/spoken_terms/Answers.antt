@@ -1,5 +1,5 @@
 use Rattle.std.proofs.Common.{arith}
-use Rattle.numbering.specs.KnownProblem.{problem}
+use Rattle.numbering.specs.inner.KnownProblem.{problem}
 use Rattle.solver.specs.Refusing.{IsListed, spoken_views}
 use Rattle.solver.proofs.Sized.{all_spoken, at_place, sized_at, spoken_more}
 use Rattle.solver.proofs.speaking.spoken_terms.Goals as goal

@@ -1,5 +1,5 @@
 use Rattle.terms.specs.Terms.{terms_view}
-use Rattle.numbering.specs.KnownProblem.{problem}
+use Rattle.numbering.specs.inner.KnownProblem.{problem}
 use Rattle.solver.specs.Refusing.{spoken_views}
 use Rattle.solver.proofs.Sized.{IsSpeaking}
 use Rattle.solver.proofs.speaking.spoken_terms.Given as goal

@@ -1,9 +1,9 @@
 use Rattle.std.proofs.Common.{◌≡◌, IfOk, sym, ap, ◌∙◌, subst, arith}
 use Rattle.propagation.specs.Trails.{trail_view}
-use Rattle.vertices.specs.RefViews.{state_ref_view, vertex_ref_view}
-use Rattle.numbering.specs.Assignments.{state_at, state_if, state_of}
-use Rattle.numbering.specs.KnownProblem.{problem}
-use Rattle.guiding.specs.Guides.{final_of, first_in}
+use Rattle.vertices.specs.inner.RefViews.{state_ref_view, vertex_ref_view}
+use Rattle.numbering.specs.inner.Assignments.{state_at, state_if, state_of}
+use Rattle.numbering.specs.inner.KnownProblem.{problem}
+use Rattle.guiding.specs.inner.Guides.{final_of, first_in}
 use Rattle.solver.proofs.Ends.{number_within}
 use Rattle.solver.proofs.states.state_of.Goals as goal
 

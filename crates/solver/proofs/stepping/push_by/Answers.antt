@@ -4,8 +4,8 @@ use Rattle.model.specs.Derivation.{combine, given}
 use Rattle.model.proofs.Members.{element}
 use Rattle.vertices.specs.Kinds.{kind_view}
 use Rattle.vertices.specs.Texts.{IsReadVertex}
-use Rattle.derivations.specs.Building.{ordered_terms}
-use Rattle.derivations.specs.Named.{named_views}
+use Rattle.derivations.specs.inner.Building.{ordered_terms}
+use Rattle.derivations.specs.inner.Named.{named_views}
 use Rattle.solver.specs.Refusing.{AreThere, IsNamed}
 use Rattle.solver.proofs.SteppedRows.{by_axiom, by_parts}
 use Rattle.solver.proofs.stepping.push_by.Goals as goal

@@ -1,10 +1,10 @@
 use Rattle.std.proofs.Common.{◌≡◌, ◌++◌, ◌∷◌, [], length, sym, ap, ◌∙◌, subst}
 use Rattle.std.proofs.lemmas.Result.{on_ok_weaker}
 use Rattle.terms.specs.Terms.{terms_view}
-use Rattle.solver.specs.Flats.{flat_view}
-use Rattle.derivations.specs.Named.{named_views}
-use Rattle.numbering.specs.KnownProblem.{problem}
-use Rattle.solver.specs.Decoding.{terms_of}
+use Rattle.solver.specs.inner.Flats.{flat_view}
+use Rattle.derivations.specs.inner.Named.{named_views}
+use Rattle.numbering.specs.inner.KnownProblem.{problem}
+use Rattle.solver.specs.inner.Decoding.{terms_of}
 use Rattle.solver.specs.Refusing.{AreSized, AreThere, spoken_views}
 use Rattle.solver.proofs.Listed.{named_kept}
 use Rattle.solver.proofs.NewTerms.{vertices_read}

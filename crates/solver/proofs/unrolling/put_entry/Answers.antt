@@ -3,8 +3,8 @@ use Rattle.std.proofs.lemmas.Result.{IfOk-weaker}
 use Rattle.terms.specs.Terms.{terms_view}
 use Rattle.version_sets.specs.Sets.{has}
 use Rattle.incompatibilities.specs.Stores.{entries_view, entry}
-use Rattle.incompatibilities.specs.Counts.{given_in, links_in}
-use Rattle.solver.specs.Flats.{IsPut, PutIf, flats_view}
+use Rattle.incompatibilities.specs.inner.Counts.{given_in, links_in}
+use Rattle.solver.specs.inner.Flats.{IsPut, PutIf, flats_view}
 use Rattle.solver.proofs.FlatRows.{chain_at, put_axiom}
 use Rattle.solver.proofs.unrolling.put_entry.Goals as goal
 

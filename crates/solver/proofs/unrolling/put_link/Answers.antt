@@ -3,7 +3,7 @@ use Rattle.std.proofs.lemmas.Result.{IfOk-weaker}
 use Rattle.terms.specs.Terms.{TermView, terms_view}
 use Rattle.incompatibilities.specs.Incompatibilities.{Fit, IsCombination, LiesIn, states_at}
 use Rattle.incompatibilities.specs.Stores.{entries_view, entry}
-use Rattle.solver.specs.Flats.{FlatView, flat, flats_view}
+use Rattle.solver.specs.inner.Flats.{FlatView, flat, flats_view}
 use Rattle.solver.specs.declared.flat.Source.TheVariants.{Combined}
 use Rattle.solver.proofs.FlatRows.{flat_read}
 use Rattle.solver.proofs.unrolling.put_link.Goals as goal

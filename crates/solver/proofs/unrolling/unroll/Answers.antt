@@ -1,8 +1,8 @@
 use Rattle.std.proofs.Common.{◌≡◌, ◌<◌, add-one, arith, length, refl, sym, subst}
 use Rattle.version_sets.specs.Sets.{has}
 use Rattle.incompatibilities.specs.Stores.{entries_view}
-use Rattle.solver.specs.Flats.{PutIf, flats_view}
-use Rattle.solver.specs.Marks.{IsMarking}
+use Rattle.solver.specs.inner.Flats.{PutIf, flats_view}
+use Rattle.solver.specs.inner.Marks.{IsMarking}
 use Rattle.solver.proofs.FlatRows.{IsUnrolling, unrolled, unrolling_more}
 use Rattle.solver.proofs.unrolling.unroll.Goals as goal
 

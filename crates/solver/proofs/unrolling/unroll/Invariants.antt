@@ -1,5 +1,5 @@
 use Rattle.incompatibilities.specs.Stores.{entries_view}
-use Rattle.solver.specs.Flats.{flats_view}
+use Rattle.solver.specs.inner.Flats.{flats_view}
 use Rattle.solver.proofs.FlatRows.{IsUnrolling}
 use Rattle.solver.proofs.unrolling.unroll.Given as goal
 

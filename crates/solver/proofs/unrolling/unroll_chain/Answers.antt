@@ -2,7 +2,7 @@ use Rattle.std.proofs.Common.{◌≡◌, ◌+◌, ◌∷◌, add-one, ap, drop, 
 use Rattle.std.proofs.Math.Seq.{drop-cons}
 use Rattle.incompatibilities.specs.Stores.{entries_view}
 use Rattle.incompatibilities.specs.declared.chain.Link.{Link}
-use Rattle.solver.specs.Flats.{flats_view}
+use Rattle.solver.specs.inner.Flats.{flats_view}
 use Rattle.solver.proofs.FlatRows.{IsPutting, putting_fit, putting_more, putting_none}
 use Rattle.solver.proofs.unrolling.unroll_chain.Goals as goal
 

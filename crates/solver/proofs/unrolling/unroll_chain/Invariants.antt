@@ -1,6 +1,6 @@
 use Rattle.std.proofs.Common.{drop}
 use Rattle.incompatibilities.specs.Stores.{entries_view}
-use Rattle.solver.specs.Flats.{flats_view}
+use Rattle.solver.specs.inner.Flats.{flats_view}
 use Rattle.solver.proofs.FlatRows.{IsPutting}
 use Rattle.solver.proofs.unrolling.unroll_chain.Given as goal
 

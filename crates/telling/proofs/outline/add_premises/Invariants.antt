@@ -1,5 +1,5 @@
 use Rattle.std.proofs.Common.{◌≡◌, drop}
-use Rattle.telling.specs.Outlines.{with_premises}
+use Rattle.telling.specs.inner.Outlines.{with_premises}
 use Rattle.telling.proofs.outline.add_premises.Given as goal
 
 -- adding those that are left comes to the same

@@ -1,6 +1,6 @@
 use Rattle.std.proofs.Common.{◌≡◌, drop}
-use Rattle.telling.specs.Outlines.{outline_from, uses_of}
-use Rattle.telling.specs.Views.{so_far_view}
+use Rattle.telling.specs.inner.Outlines.{outline_from, uses_of}
+use Rattle.telling.specs.inner.Views.{so_far_view}
 use Rattle.telling.proofs.outline.look_at_all.Given as goal
 
 -- going on from here comes to the same outline

@@ -1,6 +1,6 @@
 use Rattle.std.proofs.Common.{◌≡◌, refl, sym, subst, ap, ◌∙◌}
-use Rattle.telling.specs.Outlines.{IsOutline, Outline, nothing_yet, outline_from, uses_of}
-use Rattle.telling.specs.Views.{so_far_view}
+use Rattle.telling.specs.inner.Outlines.{IsOutline, Outline, nothing_yet, outline_from, uses_of}
+use Rattle.telling.specs.inner.Views.{so_far_view}
 use Rattle.telling.proofs.LeadingBack.{leads-back}
 use Rattle.telling.proofs.OutlineLaws.{sentences-tell}
 use Rattle.telling.proofs.outline.sentences_of.Goals as goal

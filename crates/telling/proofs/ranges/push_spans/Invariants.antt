@@ -1,6 +1,6 @@
 use Rattle.std.proofs.Common.{◌≡◌, ◌++◌, drop, length, map, string_bytes}
 use Rattle.semver.specs.Identifiers.{parts_of}
-use Rattle.telling.specs.Words.{spans_words}
+use Rattle.telling.specs.inner.Words.{spans_words}
 use Rattle.telling.proofs.ranges.push_spans.Given as goal
 
 -- what is written, with the runs that are left, is the whole

@@ -1,5 +1,5 @@
 use Rattle.std.proofs.Common.{◌≡◌, ◌++◌, drop}
-use Rattle.telling.specs.Spans.{spans_from, spans_of}
+use Rattle.telling.specs.inner.Spans.{spans_from, spans_of}
 use Rattle.telling.proofs.spans.runs_of.Given as goal
 
 -- the runs so far, with those of the marks that are left, are all

@@ -1,5 +1,5 @@
 use Rattle.std.proofs.Common.{◌↔◌, ◌≡◌, Some, true, slice_get, sym, subst}
-use Rattle.telling.specs.Spans.{IsInOne}
+use Rattle.telling.specs.inner.Spans.{IsInOne}
 use Rattle.telling.proofs.SpansSay.{says}
 use Rattle.telling.proofs.spans.spans_of.Goals as goal
 

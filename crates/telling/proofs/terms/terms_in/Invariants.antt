@@ -1,6 +1,6 @@
 use Rattle.std.proofs.Common.{◌≡◌, take}
-use Rattle.lookups.specs.TermViews.{term_views}
-use Rattle.derivations.specs.Tables.{terms_at}
+use Rattle.lookups.specs.inner.TermViews.{term_views}
+use Rattle.derivations.specs.inner.Tables.{terms_at}
 use Rattle.telling.proofs.terms.terms_in.Given as goal
 
 abbrev pub invariant-terms : goal.invariant-terms

@@ -1,7 +1,7 @@
 use Rattle.std.proofs.Common.{◌≡◌, IfOk, sym, ap, subst, ◌∙◌}
-use Rattle.derivations.specs.Derivations.{IsDerivation}
-use Rattle.derivations.specs.Tables.{terms_at}
-use Rattle.lookups.specs.TermViews.{term_views}
+use Rattle.derivations.specs.inner.Derivations.{IsDerivation}
+use Rattle.derivations.specs.inner.Tables.{terms_at}
+use Rattle.lookups.specs.inner.TermViews.{term_views}
 use Rattle.derivations.proofs.TableLaws.{lent}
 use Rattle.telling.proofs.OrderedTerms.{none-lent, none-there, ordered-at, terms-there}
 use Rattle.telling.proofs.terms.terms_of.Goals as goal

@@ -1,5 +1,5 @@
 use Rattle.std.proofs.Common.{ℕ, ◌-◌, arith}
-use Rattle.telling.specs.Outlines.{uses_of}
+use Rattle.telling.specs.inner.Outlines.{uses_of}
 use Rattle.telling.proofs.UsesLaws.{went-on}
 use Rattle.telling.proofs.uses.uses_of.Goals as goal
 

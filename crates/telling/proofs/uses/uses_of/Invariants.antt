@@ -1,5 +1,5 @@
 use Rattle.std.proofs.Common.{◌≡◌}
-use Rattle.telling.specs.Outlines.{uses_down, uses_of}
+use Rattle.telling.specs.inner.Outlines.{uses_down, uses_of}
 use Rattle.telling.proofs.uses.uses_of.Given as goal
 
 -- looking at the steps that are left comes to the same

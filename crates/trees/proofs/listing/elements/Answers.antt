@@ -1,6 +1,6 @@
 use Rattle.std.proofs.Common.{Some, option_map, sym, ap, ◌∙◌}
 use Rattle.serde_json.specs.Find.{as_array}
-use Rattle.trees.specs.Tokens.{json_from}
+use Rattle.trees.specs.inner.Tokens.{json_from}
 use Rattle.trees.specs.Trees.{data_of, items_of, tree_view}
 use Rattle.trees.proofs.TokenLemmas.{begun, has-items, items_from-read}
 use Rattle.trees.proofs.TreeLemmas.{as_array-data_of}

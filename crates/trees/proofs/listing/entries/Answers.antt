@@ -4,7 +4,7 @@ use Rattle.std.specs.Map.{keys_of}
 use Rattle.serde_json.specs.Data.{no_members}
 use Rattle.serde_json.specs.Find.{as_object}
 use Rattle.serde_json.specs.View.{members_view}
-use Rattle.trees.specs.Tokens.{json_from, members_from}
+use Rattle.trees.specs.inner.Tokens.{json_from, members_from}
 use Rattle.trees.specs.Trees.{data_of, members_of, tree_view}
 use Rattle.trees.proofs.TokenLemmas.{begun, has-members, members_from-read}
 use Rattle.trees.proofs.TreeLemmas.{as_object-data_of, put-entries, put-listed}

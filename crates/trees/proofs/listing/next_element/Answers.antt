@@ -1,6 +1,6 @@
 use Rattle.std.proofs.Common.{sym, ap, ◌∙◌}
 use Rattle.serde_json.specs.Data.{item}
-use Rattle.trees.specs.Tokens.{items_from}
+use Rattle.trees.specs.inner.Tokens.{items_from}
 use Rattle.trees.specs.Trees.{data_of, items_of, left_items}
 use Rattle.trees.proofs.TokenLemmas.{begins-read, json_from-read, in_items, items_from-read, items-left}
 use Rattle.trees.proofs.listing.next_element.Goals as goal

@@ -1,5 +1,5 @@
 use Rattle.std.proofs.Common.{◌∷◌, sym, ap, ◌∙◌}
-use Rattle.trees.specs.Tokens.{members_from}
+use Rattle.trees.specs.inner.Tokens.{members_from}
 use Rattle.trees.specs.Trees.{data_of, left, listed}
 use Rattle.trees.proofs.TokenLemmas.{begins-read, json_from-read, in_members, members_from-read, members-left}
 use Rattle.trees.proofs.listing.next_entry.Goals as goal

@@ -1,6 +1,6 @@
 use Rattle.std.proofs.Common.{Some, sym, ap, ◌∙◌}
 use Rattle.serde_json.specs.Data.{no_members}
-use Rattle.trees.specs.Parts.{members_put}
+use Rattle.trees.specs.inner.Parts.{members_put}
 use Rattle.trees.specs.Trees.{left, put_all}
 use Rattle.trees.proofs.TreeLemmas.{put_all-push}
 use Rattle.trees.proofs.looking.as_members.Goals as goal

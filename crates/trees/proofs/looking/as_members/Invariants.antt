@@ -1,7 +1,7 @@
 use Rattle.std.proofs.Common.{◌≡◌, Some, length}
 use Rattle.serde_json.specs.Data.{no_members}
 use Rattle.serde_json.specs.Find.{as_object}
-use Rattle.trees.specs.Parts.{members_put}
+use Rattle.trees.specs.inner.Parts.{members_put}
 use Rattle.trees.specs.Trees.{left, put_all, tree_view}
 use Rattle.trees.proofs.looking.as_members.Given as goal
 

@@ -1,6 +1,6 @@
 use Rattle.std.proofs.Common.{sym, ap, ◌∙◌}
 use Rattle.serde_json.specs.Find.{as_str}
-use Rattle.trees.specs.Tokens.{json_from}
+use Rattle.trees.specs.inner.Tokens.{json_from}
 use Rattle.trees.specs.Trees.{tree_view}
 use Rattle.trees.proofs.TokenLemmas.{begun}
 use Rattle.trees.proofs.TreeLemmas.{as_str-data_of}

@@ -1,6 +1,6 @@
 use Rattle.std.proofs.Common.{option_map, option_and_then, sym, ap, ◌∙◌}
 use Rattle.serde_json.specs.Find.{as_number, as_u64}
-use Rattle.trees.specs.Tokens.{json_from}
+use Rattle.trees.specs.inner.Tokens.{json_from}
 use Rattle.trees.specs.Trees.{num_of, tree_view}
 use Rattle.trees.proofs.TokenLemmas.{begun}
 use Rattle.trees.proofs.TreeLemmas.{as_number-data_of, whole-data_of}

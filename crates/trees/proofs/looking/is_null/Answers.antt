@@ -1,5 +1,5 @@
 use Rattle.std.proofs.Common.{sym, ap, ◌∙◌}
-use Rattle.trees.specs.Tokens.{json_from}
+use Rattle.trees.specs.inner.Tokens.{json_from}
 use Rattle.trees.specs.Trees.{is_null, tree_view}
 use Rattle.trees.proofs.TokenLemmas.{begun}
 use Rattle.trees.proofs.TreeLemmas.{is_null-data_of}

@@ -1,7 +1,7 @@
 use Rattle.std.proofs.Common.{option_map, sym, ap, ◌∙◌}
 use Rattle.json.specs.Find as find
 use Rattle.serde_json.specs.Find.{get}
-use Rattle.trees.specs.Tokens.{json_from}
+use Rattle.trees.specs.inner.Tokens.{json_from}
 use Rattle.trees.specs.Trees.{data_of, tree_view}
 use Rattle.trees.proofs.TokenLemmas.{begun}
 use Rattle.trees.proofs.TreeLemmas.{get-data_of, some-found, found-begins}

@@ -1,7 +1,7 @@
 use Rattle.std.proofs.Common.{◌≡◌, Some, Err, map, sym, ap, ◌∙◌}
 use Rattle.json.specs.Lex.{tokens}
 use Rattle.json.specs.Tape.{node_token}
-use Rattle.trees.specs.Parts.{read_within}
+use Rattle.trees.specs.inner.Parts.{read_within}
 use Rattle.trees.specs.Trees.{tokens_view}
 use Rattle.trees.proofs.ReadLemmas.{data-read, data-refused, read-invalid, read-none, read-whole}
 use Rattle.trees.proofs.reading.read_short.Goals as goal

@@ -1,7 +1,7 @@
 use Rattle.std.proofs.Common.{◌+◌, ◌*◌, arith}
 use Rattle.std.specs.Simd.Lanes.{zip2}
 use Rattle.std.proofs.Common.{bit_and}
-use Rattle.version_sets.specs.Words.{all_zero}
+use Rattle.version_sets.specs.inner.Words.{all_zero}
 use Rattle.version_sets.proofs.Fronts.{block_fails, block_more}
 use Rattle.version_sets.proofs.kernels.are_disjoint.Goals as goal
 

@@ -1,6 +1,6 @@
 use Rattle.std.proofs.Common.{◌≡◌, ◌*◌, drop}
 use Rattle.std.specs.Simd.Lanes.{zip2}
-use Rattle.version_sets.specs.Words.{all_zero}
+use Rattle.version_sets.specs.inner.Words.{all_zero}
 use Rattle.std.proofs.Common.{bit_and}
 use Rattle.version_sets.proofs.kernels.are_disjoint.Given as goal
 

@@ -1,6 +1,6 @@
 use Rattle.std.proofs.Common.{◌+◌, ◌*◌, arith}
 use Rattle.std.specs.Simd.Lanes.{zip2}
-use Rattle.version_sets.specs.Words.{all_zero, and_not}
+use Rattle.version_sets.specs.inner.Words.{all_zero, and_not}
 use Rattle.version_sets.proofs.Fronts.{block_fails, block_more}
 use Rattle.version_sets.proofs.kernels.are_within.Goals as goal
 

@@ -1,6 +1,6 @@
 use Rattle.std.proofs.Common.{◌≡◌, ◌*◌, drop}
 use Rattle.std.specs.Simd.Lanes.{zip2}
-use Rattle.version_sets.specs.Words.{all_zero, and_not}
+use Rattle.version_sets.specs.inner.Words.{all_zero, and_not}
 use Rattle.version_sets.proofs.kernels.are_within.Given as goal
 
 abbrev pub invariant-vectors : goal.invariant-vectors

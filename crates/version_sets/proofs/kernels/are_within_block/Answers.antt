@@ -1,6 +1,6 @@
 use Rattle.std.proofs.Common.{◌∙◌, ap, eqb, bit_or}
 use Rattle.std.specs.Simd.Lanes.{chunk, fold_l, zip2}
-use Rattle.version_sets.specs.Words.{and_not}
+use Rattle.version_sets.specs.inner.Words.{and_not}
 use Rattle.version_sets.proofs.Fronts.{lanes_zero, not_lanes}
 use Rattle.version_sets.proofs.kernels.are_within_block.Goals as goal
 

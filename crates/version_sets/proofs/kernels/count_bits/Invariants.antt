@@ -1,5 +1,5 @@
 use Rattle.std.proofs.Common.{◌≡◌, ◌+◌, drop}
-use Rattle.version_sets.specs.Words.{ones_in}
+use Rattle.version_sets.specs.inner.Words.{ones_in}
 use Rattle.version_sets.proofs.kernels.count_bits.Given as goal
 
 abbrev pub invariant-words : goal.invariant-words

@@ -1,6 +1,6 @@
 use Rattle.std.proofs.Common.{◌∙◌, ap}
 use Rattle.std.specs.List.{list_any}
-use Rattle.axioms.specs.Asking.{row_names}
+use Rattle.axioms.specs.inner.Asking.{row_names}
 use Rattle.axioms.proofs.Asked.{rows_ask}
 use Rattle.axioms.proofs.gathered.Gathered.new.Goals as goal
 

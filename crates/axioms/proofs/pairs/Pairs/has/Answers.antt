@@ -1,6 +1,6 @@
 use Rattle.std.proofs.Common.{◌∙◌, ap}
-use Rattle.axioms.specs.Pairs.{keys_if}
-use Rattle.features.specs.Texts.{has_text}
+use Rattle.axioms.specs.inner.Pairs.{keys_if}
+use Rattle.features.specs.inner.Texts.{has_text}
 use Rattle.features.proofs.DraftLemmas.{contains-has}
 use Rattle.features.proofs.TextMaps.{at_text-get}
 use Rattle.axioms.proofs.pairs.Pairs.has.Goals as goal

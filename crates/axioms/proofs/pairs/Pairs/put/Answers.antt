@@ -2,7 +2,7 @@ use Rattle.std.proofs.Common.{Some, None, IsSome, refl, sym, ap, ◌∙◌, subs
 use Rattle.std.specs.BTreeMap.{Updates}
 use Rattle.std.specs.BTreeSet.{insert_key}
 use Rattle.axioms.proofs.PairLemmas.{put_pair}
-use Rattle.features.specs.Texts.{borrowed_cmp}
+use Rattle.features.specs.inner.Texts.{borrowed_cmp}
 use Rattle.axioms.proofs.pairs.Pairs.put.Goals as goal
 
 pub returns-in-Some : goal.returns-in-Some

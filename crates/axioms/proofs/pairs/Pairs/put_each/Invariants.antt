@@ -1,7 +1,7 @@
 use Rattle.std.proofs.Common.{◌≡◌, ◌||◌, ℕ, List}
 use Rattle.std.specs.List.{list_any}
 use Rattle.refutations.specs.Causes.{same_pair}
-use Rattle.axioms.specs.Pairs.{has_pair}
+use Rattle.axioms.specs.inner.Pairs.{has_pair}
 use Rattle.axioms.proofs.pairs.Pairs.put_each.Given as goal
 
 -- with the features that are left, all are there

@@ -1,7 +1,7 @@
 use Rattle.std.proofs.Common.{◌∙◌, ◌&&◌, ap}
 use Rattle.model.specs.Summary.{same_text}
-use Rattle.features.specs.Texts.{has_text}
-use Rattle.axioms.specs.Pairs.{keys_if}
+use Rattle.features.specs.inner.Texts.{has_text}
+use Rattle.axioms.specs.inner.Pairs.{keys_if}
 use Rattle.axioms.proofs.GatherLemmas.{adds_none, adds_ok, and-none, named_keys}
 use Rattle.features.proofs.TextMaps.{at_text-get}
 use Rattle.axioms.proofs.pairs.Pairs.put_those.Goals as goal

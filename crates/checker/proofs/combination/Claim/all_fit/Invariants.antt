@@ -1,7 +1,7 @@
 use Rattle.std.proofs.Common.{◌≡◌, drop}
 use Rattle.std.specs.List.{list_all}
-use Rattle.derivations.specs.Tables.{terms_at}
-use Rattle.checker.specs.Claims.{claim_tables, fits_claim}
+use Rattle.derivations.specs.inner.Tables.{terms_at}
+use Rattle.checker.specs.inner.Claims.{claim_tables, fits_claim}
 use Rattle.checker.proofs.combination.Claim.all_fit.Given as goal
 
 abbrev pub invariant-those : goal.invariant-those

@@ -1,6 +1,7 @@
 use Rattle.std.proofs.Common.{◌∙◌, sym}
-use Rattle.derivations.specs.Tables.{term_at}
-use Rattle.checker.specs.Claims.{claim_first, claim_problem, claim_second, claim_tables, claim_terms, claim_vertex}
+use Rattle.derivations.specs.inner.Tables.{term_at}
+use Rattle.checker.specs.inner.Claims.{claim_first, claim_problem, claim_second, claim_tables, claim_terms}
+use Rattle.checker.specs.inner.Claims.{claim_vertex}
 use Rattle.checker.proofs.CombinationLaws.{fits_there, fits_elsewhere}
 use Rattle.checker.proofs.combination.Claim.fits.Goals as goal
 

@@ -1,8 +1,8 @@
 use Rattle.std.proofs.Common.{◌∙◌, ◌&&◌, sym}
 use Rattle.std.specs.List.{list_all}
 use Rattle.lookups.proofs.SetLaws.{and_then, and_else}
-use Rattle.checker.specs.Claims.{claim_first, claim_problem, claim_second, claim_terms, claim_vertex, fits_claim}
-use Rattle.checker.specs.Claims.{fits_or_said_claim}
+use Rattle.checker.specs.inner.Claims.{claim_first, claim_problem, claim_second, claim_terms, claim_vertex, fits_claim}
+use Rattle.checker.specs.inner.Claims.{fits_or_said_claim}
 use Rattle.checker.proofs.CombinationLaws.{all_fit_is}
 use Rattle.checker.proofs.combination.Claim.holds.Goals as goal
 

@@ -3,8 +3,8 @@ use Rattle.std.specs.Ordering.{nat_cmp}
 use Rattle.std.proofs.lemmas.Fn.{always_returns_same}
 use Rattle.std.proofs.lemmas.List.{get_or_default}
 use Rattle.std.proofs.lemmas.List.Elements.{All-from_recursion}
-use Rattle.checker.specs.Names.{rank_at}
-use Rattle.checker.specs.Ready.{IsReady, tables_of}
+use Rattle.checker.specs.inner.Names.{rank_at}
+use Rattle.checker.specs.inner.Ready.{IsReady, tables_of}
 use Rattle.checker.proofs.Searching.{number_ends, number_finds}
 use Rattle.checker.proofs.names.Names.find.Goals as goal
 

@@ -1,8 +1,8 @@
 use Rattle.std.proofs.Common.{◌∙◌, sym, ap, refl}
-use Rattle.refutations.specs.Terms.{same_states}
+use Rattle.refutations.specs.inner.Terms.{same_states}
 use Rattle.refutations.proofs.Sets.{same_states-is}
-use Rattle.checker.specs.Names.{named_set}
-use Rattle.checker.specs.Ready.{tables_of}
+use Rattle.checker.specs.inner.Names.{named_set}
+use Rattle.checker.specs.inner.Ready.{tables_of}
 use Rattle.checker.proofs.names.Names.is_same_set.Goals as goal
 
 pub returns-then-a-b : goal.returns-then-a-b

@@ -1,5 +1,5 @@
 use Rattle.std.proofs.Common.{take}
-use Rattle.checker.specs.Naming.{AreNamed, IsGrown}
+use Rattle.checker.specs.inner.Naming.{AreNamed, IsGrown}
 use Rattle.checker.proofs.naming.Naming.add_terms.Given as goal
 
 abbrev pub invariant-terms : goal.invariant-terms

@@ -1,6 +1,6 @@
 use Rattle.std.proofs.Common.{◌≡◌, length, sym, ap, ◌∙◌, rules}
 use Rattle.std.proofs.lemmas.List.{length-map}
-use Rattle.derivations.specs.Tables.{step_at}
+use Rattle.derivations.specs.inner.Tables.{step_at}
 use Rattle.derivations.proofs.derivation.Derivation.len.Goals as goal
 
 pub returns : goal.returns

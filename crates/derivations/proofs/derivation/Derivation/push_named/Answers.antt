@@ -1,6 +1,6 @@
 use Rattle.std.proofs.Common.{◌++◌, ◌∷◌, [], ap, sym, subst, ◌∙◌}
-use Rattle.derivations.specs.Derivations.{IsDerivation}
-use Rattle.derivations.specs.Named.{named_step_from, set_in_order_views}
+use Rattle.derivations.specs.inner.Derivations.{IsDerivation}
+use Rattle.derivations.specs.inner.Named.{named_step_from, set_in_order_views}
 use Rattle.derivations.proofs.ReadLaws.{one-after}
 use Rattle.derivations.proofs.TableLaws.{kept-steps, more-steps, on-err}
 use Rattle.derivations.proofs.derivation.Derivation.push_named.Goals as goal

@@ -1,7 +1,7 @@
 use Rattle.std.proofs.Common.{length, subst, sym}
 use Rattle.model.specs.Derivation.{combine}
-use Rattle.derivations.specs.Derivations.{IsStepAt}
-use Rattle.derivations.specs.Named.{named_views}
+use Rattle.derivations.specs.inner.Derivations.{IsStepAt}
+use Rattle.derivations.specs.inner.Named.{named_views}
 use Rattle.derivations.proofs.BuildingLaws.{terms-are}
 use Rattle.derivations.proofs.derivation.Derivation.push_named_combination.Goals as goal
 

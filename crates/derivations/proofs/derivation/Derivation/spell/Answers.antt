@@ -1,5 +1,5 @@
 use Rattle.std.proofs.Common.{sym, subst, ◌∙◌}
-use Rattle.derivations.specs.Derivations.{IsDerivation}
+use Rattle.derivations.specs.inner.Derivations.{IsDerivation}
 use Rattle.derivations.proofs.TableLaws.{kept-steps}
 use Rattle.derivations.proofs.derivation.Derivation.spell.Goals as goal
 

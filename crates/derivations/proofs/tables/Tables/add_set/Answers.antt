@@ -4,7 +4,7 @@ use Rattle.std.specs.List.{AllByRecursion}
 use Rattle.std.specs.Ordering.{on}
 use Rattle.std.proofs.Common.{subst, sym}
 use Rattle.model.proofs.Same.{text-same}
-use Rattle.derivations.specs.Tables.{AreStatesOf}
+use Rattle.derivations.specs.inner.Tables.{AreStatesOf}
 use Rattle.derivations.proofs.TableLaws.{each-key, found-key, grown-sets}
 use Rattle.derivations.proofs.tables.Tables.add_set.Goals as goal
 

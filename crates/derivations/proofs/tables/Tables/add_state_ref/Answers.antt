@@ -1,5 +1,5 @@
 use Rattle.model.specs.Vertices.{absent}
-use Rattle.vertices.specs.RefViews.{state_ref_view}
+use Rattle.vertices.specs.inner.RefViews.{state_ref_view}
 use Rattle.derivations.proofs.TableLaws.{grown-refl, found-at}
 use Rattle.derivations.proofs.tables.Tables.add_state_ref.Goals as goal
 

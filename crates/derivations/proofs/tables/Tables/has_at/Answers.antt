@@ -1,6 +1,6 @@
 use Rattle.std.proofs.Common.{◌≡◌, Some, slice_get, ap, sym, ◌∙◌}
 use Rattle.model.proofs.Same.{state-same}
-use Rattle.vertices.specs.RefViews.{state_ref_view}
+use Rattle.vertices.specs.inner.RefViews.{state_ref_view}
 use Rattle.derivations.proofs.TableLaws.{lent}
 use Rattle.derivations.proofs.tables.Tables.has_at.Goals as goal
 

@@ -1,5 +1,5 @@
 use Rattle.std.proofs.Common.{◌≡◌, map, string_bytes, subst, ◌∙◌}
-use Rattle.explainer.specs.Texts.{sets_words}
+use Rattle.explainer.specs.inner.Texts.{sets_words}
 use Rattle.explainer.proofs.TextLaws.{found-set}
 use Rattle.explainer.proofs.texts.Texts.set.Goals as goal
 

@@ -1,5 +1,5 @@
 use Rattle.std.proofs.Common.{refl, sym, ◌∙◌}
-use Rattle.features.specs.DraftViews.{names_in, written_in}
+use Rattle.features.specs.inner.DraftViews.{names_in, written_in}
 use Rattle.features.proofs.DraftLemmas.{faultless-well}
 use Rattle.features.proofs.draft.Draft.faultless.Goals as goal
 

@@ -3,9 +3,9 @@ use Rattle.std.specs.List.{list_any}
 use Rattle.std.proofs.lemmas.List.{drop_all}
 use Rattle.model.specs.Summary as model
 use Rattle.model.specs.Tables.{first_with, has_fault}
-use Rattle.features.specs.Drafts.{lack_view}
+use Rattle.features.specs.inner.Drafts.{lack_view}
 use Rattle.features.specs.EntryViews.{entry_view}
-use Rattle.features.specs.Tables.{dep_names_view, rows_of}
+use Rattle.features.specs.inner.Tables.{dep_names_view, rows_of}
 use Rattle.features.proofs.DraftLemmas.{first_with-at, first_with-beyond, first_with-none}
 use Rattle.features.proofs.draft.Draft.first_lacking.Goals as goal
 

@@ -1,7 +1,7 @@
 use Rattle.std.proofs.Common.{◌≡◌, drop}
 use Rattle.model.specs.Tables.{has_fault, first_with}
-use Rattle.features.specs.Drafts.{lack_view}
-use Rattle.features.specs.Tables.{dep_names_view, rows_of}
+use Rattle.features.specs.inner.Drafts.{lack_view}
+use Rattle.features.specs.inner.Tables.{dep_names_view, rows_of}
 use Rattle.features.proofs.draft.Draft.first_lacking.Given as goal
 
 -- the first of all is the first of those that are left

@@ -1,7 +1,7 @@
 use Rattle.std.proofs.Common.{◌≡◌, take}
 use Rattle.model.specs.Tables.{is_implicit}
-use Rattle.features.specs.Drafts.{implicit_rows}
-use Rattle.features.specs.Tables.{dep_names_view, rows_of}
+use Rattle.features.specs.inner.Drafts.{implicit_rows}
+use Rattle.features.specs.inner.Tables.{dep_names_view, rows_of}
 use Rattle.features.proofs.draft.Draft.implicit_rows.Given as goal
 
 -- the rows of the dependencies so far

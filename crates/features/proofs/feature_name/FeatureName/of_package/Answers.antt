@@ -1,5 +1,5 @@
 use Rattle.std.proofs.Common.{◌≡◌, rules}
-use Rattle.features.specs.NameTexts.{text_bytes}
+use Rattle.features.specs.inner.NameTexts.{text_bytes}
 use Rattle.features.proofs.NameLemmas.{feature_name-package}
 use Rattle.features.proofs.feature_name.FeatureName.of_package.Goals as goal
 

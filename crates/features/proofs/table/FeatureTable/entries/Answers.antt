@@ -3,7 +3,7 @@ use Rattle.std.specs.BTreeMap.{is_at}
 use Rattle.std.specs.Map.{lookup}
 use Rattle.model.specs.Order.{text_cmp}
 use Rattle.features.specs.EntryViews.{entry_views}
-use Rattle.features.specs.Tables.{rows_of}
+use Rattle.features.specs.inner.Tables.{rows_of}
 use Rattle.features.proofs.TableLemmas.{entries_at-get}
 use Rattle.features.proofs.table.FeatureTable.entries.Goals as goal
 

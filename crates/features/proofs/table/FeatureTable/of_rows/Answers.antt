@@ -1,5 +1,5 @@
 use Rattle.std.proofs.Common.{rules}
-use Rattle.features.specs.Tables.{dep_names_view, rows_of}
+use Rattle.features.specs.inner.Tables.{dep_names_view, rows_of}
 use Rattle.features.proofs.BuildLemmas.{built-rows}
 use Rattle.features.proofs.table.FeatureTable.of_rows.Goals as goal
 

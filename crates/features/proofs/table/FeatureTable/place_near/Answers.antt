@@ -1,7 +1,7 @@
 use Rattle.std.proofs.Common.{◌≡◌, Some, rules, ap, sym, ◌∙◌}
 use Rattle.std.specs.Option.{is_none}
-use Rattle.features.specs.Places.{place_of}
-use Rattle.features.specs.Tables.{rows_of}
+use Rattle.features.specs.inner.Places.{place_of}
+use Rattle.features.specs.inner.Tables.{rows_of}
 use Rattle.features.proofs.PlaceLemmas.{none-lacking}
 use Rattle.features.proofs.table.FeatureTable.place_near.Goals as goal
 

@@ -1,5 +1,5 @@
 use Rattle.std.proofs.Common.{◌≡◌, false, sym, ap, ◌∙◌}
-use Rattle.features.specs.Texts.{has_text}
+use Rattle.features.specs.inner.Texts.{has_text}
 use Rattle.features.proofs.DraftLemmas.{contains-has, has_text-others}
 use Rattle.features.proofs.texts.Texts.has.Goals as goal
 

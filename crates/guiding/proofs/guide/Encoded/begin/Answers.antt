@@ -4,7 +4,7 @@ use Rattle.incompatibilities.specs.Stores.{EntryView, entries_view}
 use Rattle.numbering.specs.GivenViews.{given_views}
 use Rattle.propagation.specs.Promises.{IsTrail}
 use Rattle.propagation.specs.Trails.{trail_view}
-use Rattle.guiding.specs.Guides.{IsCome, with_given}
+use Rattle.guiding.specs.inner.Guides.{IsCome, with_given}
 use Rattle.guiding.proofs.Starts.{begun}
 use Rattle.guiding.proofs.guide.Encoded.begin.Goals as goal
 

@@ -3,7 +3,7 @@ use Rattle.std.proofs.lemmas.List.{length-map}
 use Rattle.incompatibilities.specs.Stores.{entries_view}
 use Rattle.numbering.specs.GivenViews.{given_views}
 use Rattle.propagation.specs.Trails.{trail_view}
-use Rattle.guiding.specs.Guides.{EncodedView}
+use Rattle.guiding.specs.inner.Guides.{EncodedView}
 use Rattle.guiding.proofs.Asked.{beginning_by, first_of, state_below}
 use Rattle.guiding.proofs.guide.Encoded.begin_with.Goals as goal
 

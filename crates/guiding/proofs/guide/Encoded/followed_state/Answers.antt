@@ -2,9 +2,9 @@ use Rattle.std.proofs.Common.{◌∙◌, Some, None, sym, ap, subst}
 use Rattle.std.proofs.lemmas.Bool.{false≢true}
 use Rattle.std.proofs.lemmas.Option.{none-some, same_Some}
 use Rattle.version_sets.specs.Sets.{has}
-use Rattle.vertices.specs.RefViews.{vertex_ref_view}
-use Rattle.numbering.specs.KnownProblem.{problem}
-use Rattle.guiding.specs.Guides.{EncodedView, IsFollowed}
+use Rattle.vertices.specs.inner.RefViews.{vertex_ref_view}
+use Rattle.numbering.specs.inner.KnownProblem.{problem}
+use Rattle.guiding.specs.inner.Guides.{EncodedView, IsFollowed}
 use Rattle.guiding.proofs.Following.{followed_at}
 use Rattle.guiding.proofs.guide.Encoded.followed_state.Goals as goal
 

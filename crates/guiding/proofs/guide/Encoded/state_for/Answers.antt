@@ -1,7 +1,7 @@
 use Rattle.std.proofs.Common.{◌≡◌, ◌∙◌, Some, slice_get, sym, subst}
 use Rattle.std.proofs.lemmas.Option.{none-some, same_Some}
-use Rattle.vertices.specs.RefViews.{vertex_ref_view}
-use Rattle.guiding.specs.Guides.{EncodedView}
+use Rattle.vertices.specs.inner.RefViews.{vertex_ref_view}
+use Rattle.guiding.specs.inner.Guides.{EncodedView}
 use Rattle.guiding.proofs.Following.{decided_by}
 use Rattle.guiding.proofs.guide.Encoded.state_for.Goals as goal
 

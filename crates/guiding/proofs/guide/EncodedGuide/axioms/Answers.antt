@@ -2,14 +2,14 @@ use Rattle.std.proofs.Common.{map, length, true, false, Some, sym, subst}
 use Rattle.std.specs.Prelude.{IfSome}
 use Rattle.incompatibilities.specs.Stores.{entries_view}
 use Rattle.propagation.specs.Trails.{trail_view}
-use Rattle.numbering.specs.KnownProblem.{problem}
-use Rattle.guiding.specs.Searching.{HasSpaces, IsSeen}
-use Rattle.guiding.specs.Turning.{IsAdding}
-use Rattle.guiding.specs.Following as following
-use Rattle.guiding.specs.Following.{KeepsFollowed}
+use Rattle.numbering.specs.inner.KnownProblem.{problem}
+use Rattle.guiding.specs.inner.Searching.{HasSpaces, IsSeen}
+use Rattle.guiding.specs.inner.Turning.{IsAdding}
+use Rattle.guiding.specs.inner.Following as following
+use Rattle.guiding.specs.inner.Following.{KeepsFollowed}
 use Rattle.guiding.proofs.Guides.{adding_nothing}
-use Rattle.guiding.specs.Guides.{AreStored, CanAsk, EncodedView, Follows, IsNextOpen, IsOfInstance, asked_of}
-use Rattle.guiding.specs.Guides.{encoded_view, late_with, left_with}
+use Rattle.guiding.specs.inner.Guides.{AreStored, CanAsk, EncodedView, Follows, IsNextOpen, IsOfInstance, asked_of}
+use Rattle.guiding.specs.inner.Guides.{encoded_view, late_with, left_with}
 use Rattle.guiding.proofs.Adding.{IsAsked, asked_adding, asked_given, asked_seen, asked_spaces, asked_stored}
 use Rattle.guiding.proofs.Asked.{all_seen, only_below}
 use Rattle.guiding.proofs.Following.{asked_follows}

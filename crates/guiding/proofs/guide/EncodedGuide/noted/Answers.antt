@@ -1,5 +1,5 @@
 use Rattle.std.proofs.Common.{ap, subst}
-use Rattle.guiding.specs.Guides.{EncodedView, Follows, late_with, left_with}
+use Rattle.guiding.specs.inner.Guides.{EncodedView, Follows, late_with, left_with}
 use Rattle.guiding.proofs.guide.EncodedGuide.noted.Goals as goal
 
 pub returns-then-places-self-clause-late : goal.returns-then-places-self-clause-late

@@ -1,5 +1,5 @@
 use Rattle.std.proofs.Common.{◌∙◌, ap}
-use Rattle.incompatibilities.specs.Rows.{row_at}
+use Rattle.incompatibilities.specs.inner.Rows.{row_at}
 use Rattle.incompatibilities.specs.Stores.{entries_view, ids_at}
 use Rattle.incompatibilities.proofs.store.Store.at.Goals as goal
 

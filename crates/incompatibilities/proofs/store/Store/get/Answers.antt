@@ -1,5 +1,5 @@
 use Rattle.std.proofs.Common.{ap, sym, subst}
-use Rattle.incompatibilities.specs.Indexed.{IsIndexed}
+use Rattle.incompatibilities.specs.inner.Indexed.{IsIndexed}
 use Rattle.incompatibilities.specs.Stores.{EntryView, entries_view}
 use Rattle.incompatibilities.proofs.Storing.{each_follows, read_at}
 use Rattle.incompatibilities.proofs.store.Store.get.Goals as goal

@@ -1,5 +1,5 @@
 use Rattle.std.proofs.Common.{ap, sym, subst}
-use Rattle.incompatibilities.specs.Indexed.{IsIndexed}
+use Rattle.incompatibilities.specs.inner.Indexed.{IsIndexed}
 use Rattle.incompatibilities.specs.Stores.{EntryView, OriginFits, entries_view, entry}
 use Rattle.incompatibilities.proofs.Storing.{read_at}
 use Rattle.incompatibilities.proofs.store.Store.origin.Goals as goal

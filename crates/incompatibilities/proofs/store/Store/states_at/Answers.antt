@@ -1,6 +1,6 @@
 use Rattle.std.proofs.Common.{◌≡◌, ◌∙◌, List, ℕ, ap, sym, subst}
-use Rattle.incompatibilities.specs.Indexed.{HaveStates, entries_in}
-use Rattle.incompatibilities.specs.Rows.{row_at}
+use Rattle.incompatibilities.specs.inner.Indexed.{HaveStates, entries_in}
+use Rattle.incompatibilities.specs.inner.Rows.{row_at}
 use Rattle.incompatibilities.specs.Stores.{entries_view, ids_at}
 use Rattle.incompatibilities.proofs.store.Store.states_at.Goals as goal
 

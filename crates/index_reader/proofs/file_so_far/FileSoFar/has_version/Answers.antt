@@ -1,6 +1,6 @@
 use Rattle.std.proofs.Common.{◌≡◌, ap, ◌∙◌}
 use Rattle.semver.specs.Identifiers.{parts_of}
-use Rattle.index_reader.specs.BareVersions.{bare, has_equal}
+use Rattle.index_reader.specs.inner.BareVersions.{bare, has_equal}
 use Rattle.index_reader.proofs.KeptLemmas.{found-bare}
 use Rattle.index_reader.proofs.file_so_far.FileSoFar.has_version.Goals as goal
 

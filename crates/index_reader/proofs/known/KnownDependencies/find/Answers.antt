@@ -1,6 +1,6 @@
 use Rattle.std.proofs.Common.{rules, subst}
-use Rattle.index_reader.specs.Known.{IsSaid}
-use Rattle.index_reader.specs.ShapeViews.{part_view}
+use Rattle.index_reader.specs.inner.Known.{IsSaid}
+use Rattle.index_reader.specs.inner.ShapeViews.{part_view}
 use Rattle.index_reader.proofs.known.KnownDependencies.find.Goals as goal
 
 pub invariant_of-again : goal.invariant_of-again

@@ -1,7 +1,7 @@
 use Rattle.std.proofs.Common.{◌≡◌, true, map, sym, ◌∙◌}
-use Rattle.features.specs.NameTexts.{text_bytes}
-use Rattle.index_reader.specs.Known.{same_parts}
-use Rattle.index_reader.specs.ShapeViews.{part_view}
+use Rattle.features.specs.inner.NameTexts.{text_bytes}
+use Rattle.index_reader.specs.inner.Known.{same_parts}
+use Rattle.index_reader.specs.inner.ShapeViews.{part_view}
 use Rattle.model.proofs.Same.{text-same}
 use Rattle.index_reader.proofs.KnownLemmas.{says}
 use Rattle.index_reader.proofs.MadeLemmas.{texts-same}

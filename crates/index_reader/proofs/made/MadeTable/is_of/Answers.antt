@@ -1,7 +1,7 @@
 use Rattle.std.proofs.Common.{◌≡◌, sym, ◌∙◌}
-use Rattle.features.specs.Tables.{dep_names_view}
-use Rattle.index_reader.specs.Made.{feature_text_views}
-use Rattle.index_reader.specs.ShapeViews.{shape_view}
+use Rattle.features.specs.inner.Tables.{dep_names_view}
+use Rattle.index_reader.specs.inner.Made.{feature_text_views}
+use Rattle.index_reader.specs.inner.ShapeViews.{shape_view}
 use Rattle.index_reader.proofs.made.MadeTable.is_of.Goals as goal
 
 pub returns : goal.returns

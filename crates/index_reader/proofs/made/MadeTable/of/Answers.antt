@@ -1,6 +1,6 @@
 use Rattle.std.proofs.Common.{◌≡◌, rules, ◌∙◌, Ok}
-use Rattle.index_reader.specs.Made.{feature_text_views}
-use Rattle.index_reader.specs.ShapeViews.{shape_view}
+use Rattle.index_reader.specs.inner.Made.{feature_text_views}
+use Rattle.index_reader.specs.inner.ShapeViews.{shape_view}
 use Rattle.index_reader.specs.Written.{features_of}
 use Rattle.index_reader.proofs.MadeLemmas.{makes}
 use Rattle.index_reader.proofs.made.MadeTable.of.Goals as goal

@@ -1,10 +1,10 @@
 use Rattle.std.proofs.Common.{sym, ap, ◌∙◌}
 use Rattle.serde_json.specs.Data.{put}
-use Rattle.trees.specs.Parts.{members_put}
+use Rattle.trees.specs.inner.Parts.{members_put}
 use Rattle.trees.specs.Trees.{tree_view}
 use Rattle.serde_json.specs.Find.{get_member}
 use Rattle.index_reader.specs.Shapes.{unless_null, values_by}
-use Rattle.index_reader.specs.PartMembers.{value_put}
+use Rattle.index_reader.specs.inner.PartMembers.{value_put}
 use Rattle.index_reader.proofs.PartLemmas.{values_in-put}
 use Rattle.index_reader.proofs.parts.Values.put_all.Goals as goal
 

@@ -1,9 +1,9 @@
 use Rattle.std.proofs.Common.{◌≡◌, length}
 use Rattle.serde_json.specs.Data.{Members, no_members}
-use Rattle.trees.specs.Parts.{members_put}
+use Rattle.trees.specs.inner.Parts.{members_put}
 use Rattle.trees.specs.Trees.{left}
-use Rattle.index_reader.specs.PartMembers.{values_in}
-use Rattle.index_reader.specs.ShapeViews.{values_view}
+use Rattle.index_reader.specs.inner.PartMembers.{values_in}
+use Rattle.index_reader.specs.inner.ShapeViews.{values_view}
 use Rattle.index_reader.proofs.parts.Values.put_all.Given as goal
 
 -- the values are those in the members so far, and with the members that are left these are all

@@ -1,6 +1,6 @@
 use Rattle.std.proofs.Common.{◌∙◌}
 use Rattle.serde_json.specs.Data.{no_members}
-use Rattle.trees.specs.Parts.{members_put}
+use Rattle.trees.specs.inner.Parts.{members_put}
 use Rattle.trees.specs.Trees.{left, tree_view}
 use Rattle.index_reader.proofs.PartLemmas.{values_of-object}
 use Rattle.index_reader.proofs.parts.Values.take.Goals as goal

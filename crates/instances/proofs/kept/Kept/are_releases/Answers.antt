@@ -1,9 +1,9 @@
 use Rattle.std.proofs.Common.{◌∙◌, sym}
 use Rattle.classes.specs.Classes.{class_view}
-use Rattle.lookups.specs.Matching.{is_release}
+use Rattle.lookups.specs.inner.Matching.{is_release}
 use Rattle.lookups.proofs.Classed.{all_classed}
-use Rattle.instances.specs.Keeping.{NameClass}
-use Rattle.instances.specs.KeptViews.{problem_of}
+use Rattle.instances.specs.inner.Keeping.{NameClass}
+use Rattle.instances.specs.inner.KeptViews.{problem_of}
 use Rattle.instances.proofs.Keeping.{put_releases}
 use Rattle.instances.proofs.kept.Kept.are_releases.Goals as goal
 

@@ -1,7 +1,7 @@
 use Rattle.std.proofs.Common.{sym, subst}
 use Rattle.features.specs.Views.{requirement_view}
-use Rattle.instances.specs.Keeping.{AreAll, Ask, classes_in}
-use Rattle.instances.specs.KeptViews.{problem_of}
+use Rattle.instances.specs.inner.Keeping.{AreAll, Ask, classes_in}
+use Rattle.instances.specs.inner.KeptViews.{problem_of}
 use Rattle.instances.proofs.kept.Kept.classes.Goals as goal
 
 pub returns-in-Some : goal.returns-in-Some

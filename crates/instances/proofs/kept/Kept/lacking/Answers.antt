@@ -1,5 +1,5 @@
 use Rattle.std.proofs.Common.{sym}
-use Rattle.instances.specs.Keeping.{FeatureAsk}
+use Rattle.instances.specs.inner.Keeping.{FeatureAsk}
 use Rattle.instances.proofs.kept.Kept.lacking.Goals as goal
 
 pub returns-in-Some : goal.returns-in-Some

@@ -1,6 +1,6 @@
 use Rattle.std.proofs.Common.{◌≡◌, ◌∙◌, Bool, true, false, not, refl, sym, ap, true≢false}
-use Rattle.features.specs.Texts.{has_text}
-use Rattle.instances.specs.Keeping.{NameClass}
+use Rattle.features.specs.inner.Texts.{has_text}
+use Rattle.instances.specs.inner.Keeping.{NameClass}
 use Rattle.instances.proofs.kept.Kept.lacks.Goals as goal
 
 no_is : (b : Bool) → not b ≡ true → b ≡ false

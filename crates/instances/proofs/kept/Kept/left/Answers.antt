@@ -1,8 +1,8 @@
 use Rattle.std.proofs.Common.{◌∙◌, ap, sym}
 use Rattle.classes.specs.Classes.{class_view}
 use Rattle.features.specs.Views.{requirement_view}
-use Rattle.instances.specs.Keeping.{ClassAsk, left_in}
-use Rattle.instances.specs.KeptViews.{problem_of}
+use Rattle.instances.specs.inner.Keeping.{ClassAsk, left_in}
+use Rattle.instances.specs.inner.KeptViews.{problem_of}
 use Rattle.instances.proofs.kept.Kept.left.Goals as goal
 
 pub returns-in-Some : goal.returns-in-Some

@@ -1,7 +1,7 @@
 use Rattle.std.proofs.Common.{◌∙◌}
 use Rattle.classes.specs.Classes.{class_view}
-use Rattle.instances.specs.Keeping.{NameClass}
-use Rattle.instances.specs.KeptViews.{problem_of}
+use Rattle.instances.specs.inner.Keeping.{NameClass}
+use Rattle.instances.specs.inner.KeptViews.{problem_of}
 use Rattle.instances.proofs.Had.{had_is}
 use Rattle.instances.proofs.Keeping.{put_had}
 use Rattle.instances.proofs.kept.Kept.put_had.Goals as goal

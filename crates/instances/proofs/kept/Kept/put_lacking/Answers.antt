@@ -1,5 +1,5 @@
-use Rattle.instances.specs.Keeping.{FeatureAsk}
-use Rattle.instances.specs.KeptViews.{problem_of}
+use Rattle.instances.specs.inner.Keeping.{FeatureAsk}
+use Rattle.instances.specs.inner.KeptViews.{problem_of}
 use Rattle.instances.proofs.Keeping.{put_lacking}
 use Rattle.instances.proofs.kept.Kept.put_lacking.Goals as goal
 

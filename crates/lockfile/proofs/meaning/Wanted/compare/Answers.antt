@@ -2,7 +2,7 @@ use Rattle.std.proofs.Common.{◌≡◌, rules, ◌∙◌, option_map}
 use Rattle.std.specs.Ordering.{ordering_then}
 use Rattle.semver.specs.Identifiers.{parts_of}
 use Rattle.model.specs.Order.{text_cmp, version_cmp, source_cmp}
-use Rattle.lockfile.specs.Views.{package_view}
+use Rattle.lockfile.specs.inner.Views.{package_view}
 use Rattle.lockfile.proofs.Ranges.{then-assoc}
 use Rattle.lockfile.proofs.meaning.Wanted.compare.Goals as goal
 

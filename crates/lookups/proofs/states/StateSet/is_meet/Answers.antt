@@ -1,5 +1,5 @@
 use Rattle.std.proofs.Common.{◌∙◌, sym}
-use Rattle.lookups.specs.Sets.{all_in_both, all_shared_in}
+use Rattle.lookups.specs.inner.Sets.{all_in_both, all_shared_in}
 use Rattle.lookups.proofs.SetLaws.{and_then, and_else, meet_is}
 use Rattle.lookups.proofs.states.StateSet.is_meet.Goals as goal
 

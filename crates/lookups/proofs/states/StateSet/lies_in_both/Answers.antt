@@ -1,7 +1,7 @@
 use Rattle.std.proofs.Common.{◌∙◌, ◌&&◌, sym, ap}
 use Rattle.std.specs.List.{list_all}
 use Rattle.model.specs.Vertices.{State, has_state}
-use Rattle.vertices.specs.RefViews.{state_ref_view}
+use Rattle.vertices.specs.inner.RefViews.{state_ref_view}
 use Rattle.lookups.proofs.SetLaws.{all_map}
 use Rattle.lookups.proofs.states.StateSet.lies_in_both.Goals as goal
 

@@ -1,5 +1,5 @@
 use Rattle.std.proofs.Common.{◌∙◌}
-use Rattle.numbering.specs.IndexedViews.{problem_indexed}
+use Rattle.numbering.specs.inner.IndexedViews.{problem_indexed}
 use Rattle.numbering.proofs.Keeping.{put_brought}
 use Rattle.numbering.proofs.indexed.Indexed.keep_dependencies.Goals as goal
 

@@ -1,9 +1,9 @@
 use Rattle.std.proofs.Common.{sym, ap, ◌∙◌}
 use Rattle.model.specs.Vertices.{owner_brings}
-use Rattle.vertices.specs.RefViews.{owner_ref_view}
-use Rattle.numbering.specs.Called.{numbered_from}
-use Rattle.numbering.specs.IndexedViews.{problem_indexed}
-use Rattle.numbering.specs.OnPackage.{on_package}
+use Rattle.vertices.specs.inner.RefViews.{owner_ref_view}
+use Rattle.numbering.specs.inner.Called.{numbered_from}
+use Rattle.numbering.specs.inner.IndexedViews.{problem_indexed}
+use Rattle.numbering.specs.inner.OnPackage.{on_package}
 use Rattle.numbering.proofs.OnPackageLaws.{some_views}
 use Rattle.numbering.proofs.indexed.Indexed.on_package.Goals as goal
 

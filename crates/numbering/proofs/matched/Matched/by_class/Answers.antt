@@ -1,5 +1,5 @@
 use Rattle.std.proofs.Common.{sym}
-use Rattle.numbering.specs.Indexed.{OwnerKey}
+use Rattle.numbering.specs.inner.Indexed.{OwnerKey}
 use Rattle.numbering.proofs.matched.Matched.by_class.Goals as goal
 
 pub returns-in-Some : goal.returns-in-Some

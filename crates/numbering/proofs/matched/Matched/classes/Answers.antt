@@ -1,8 +1,8 @@
 use Rattle.std.proofs.Common.{◌∙◌, map, sym, ap}
 use Rattle.classes.specs.Classes.{class_view}
 use Rattle.features.specs.Views.{requirement_view}
-use Rattle.numbering.specs.Matched.{Ask, classes_asked}
-use Rattle.numbering.specs.MatchedViews.{problem_of}
+use Rattle.numbering.specs.inner.Matched.{Ask, classes_asked}
+use Rattle.numbering.specs.inner.MatchedViews.{problem_of}
 use Rattle.numbering.proofs.matched.Matched.classes.Goals as goal
 
 pub returns-in-Some : goal.returns-in-Some

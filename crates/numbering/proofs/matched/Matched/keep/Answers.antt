@@ -1,7 +1,7 @@
 use Rattle.std.proofs.Common.{ap, sym, ◌∙◌}
 use Rattle.features.specs.Views.{requirement_view}
-use Rattle.numbering.specs.Matched.{Ask, classes_asked}
-use Rattle.numbering.specs.MatchedViews.{problem_of}
+use Rattle.numbering.specs.inner.Matched.{Ask, classes_asked}
+use Rattle.numbering.specs.inner.MatchedViews.{problem_of}
 use Rattle.numbering.proofs.Keeping.{put_kept}
 use Rattle.numbering.proofs.matched.Matched.keep.Goals as goal
 

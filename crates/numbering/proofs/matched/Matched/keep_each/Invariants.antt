@@ -1,5 +1,5 @@
 use Rattle.std.proofs.Common.{◌≡◌}
-use Rattle.numbering.specs.MatchedViews.{problem_of}
+use Rattle.numbering.specs.inner.MatchedViews.{problem_of}
 use Rattle.numbering.proofs.matched.Matched.keep_each.Given as goal
 
 -- it is of the same problem

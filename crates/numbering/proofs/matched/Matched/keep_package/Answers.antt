@@ -1,10 +1,10 @@
 use Rattle.std.proofs.Common.{ap, ◌∙◌}
 use Rattle.model.specs.Vertices.{owner_brings}
-use Rattle.numbering.specs.Called.{numbered_from}
-use Rattle.numbering.specs.Indexed.{OwnerKey}
-use Rattle.numbering.specs.MatchedViews.{problem_of}
-use Rattle.numbering.specs.OnPackage.{on_package}
-use Rattle.vertices.specs.RefViews.{owner_ref_view}
+use Rattle.numbering.specs.inner.Called.{numbered_from}
+use Rattle.numbering.specs.inner.Indexed.{OwnerKey}
+use Rattle.numbering.specs.inner.MatchedViews.{problem_of}
+use Rattle.numbering.specs.inner.OnPackage.{on_package}
+use Rattle.vertices.specs.inner.RefViews.{owner_ref_view}
 use Rattle.numbering.proofs.Keeping.{put_place}
 use Rattle.numbering.proofs.matched.Matched.keep_package.Goals as goal
 

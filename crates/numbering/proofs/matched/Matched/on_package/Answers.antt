@@ -2,9 +2,9 @@ use Rattle.std.proofs.Common.{ap, ◌∙◌}
 use Rattle.std.proofs.lemmas.Option.{IfSome_then}
 use Rattle.model.specs.Content.{Problem}
 use Rattle.model.specs.Vertices.{owner_brings}
-use Rattle.vertices.specs.RefViews.{owner_ref_view}
-use Rattle.numbering.specs.Called.{numbered_from}
-use Rattle.numbering.specs.OnPackage.{on_package}
+use Rattle.vertices.specs.inner.RefViews.{owner_ref_view}
+use Rattle.numbering.specs.inner.Called.{numbered_from}
+use Rattle.numbering.specs.inner.OnPackage.{on_package}
 use Rattle.numbering.proofs.matched.Matched.on_package.Goals as goal
 
 pub returns : goal.returns

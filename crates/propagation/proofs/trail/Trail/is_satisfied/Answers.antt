@@ -6,7 +6,7 @@ use Rattle.terms.specs.declared.term.Relation.TheVariants.{Satisfied}
 use Rattle.incompatibilities.specs.Incompatibilities.{states_at}
 use Rattle.propagation.specs.Satisfaction.{Sat}
 use Rattle.propagation.specs.Trails.{trail_view}
-use Rattle.propagation.specs.Units.{AllHold, LiesOn, relation_at}
+use Rattle.propagation.specs.inner.Units.{AllHold, LiesOn, relation_at}
 use Rattle.propagation.proofs.Vertices.{sat_from, sat_to}
 use Rattle.propagation.proofs.trail.Trail.is_satisfied.Goals as goal
 

@@ -1,6 +1,6 @@
 use Rattle.terms.specs.Terms.{terms_view}
 use Rattle.propagation.specs.Trails.{trail_view}
-use Rattle.propagation.specs.Units.{AllHold, relation_at}
+use Rattle.propagation.specs.inner.Units.{AllHold, relation_at}
 use Rattle.propagation.proofs.trail.Trail.is_satisfied.Given as goal
 
 abbrev pub invariant-terms : goal.invariant-terms

@@ -2,7 +2,7 @@ use Rattle.std.proofs.Common.{◌≡◌, ◌<◌, ◌≤◌, ◌+◌, suc, None,
 use Rattle.std.proofs.Common.{subst, arith}
 use Rattle.std.proofs.lemmas.List.{get_or_default}
 use Rattle.version_sets.specs.Sets.{inside}
-use Rattle.propagation.specs.Counting.{IsCount}
+use Rattle.propagation.specs.inner.Counting.{IsCount}
 use Rattle.propagation.specs.Trails.{StepView, step_at, trail_view}
 use Rattle.propagation.proofs.Counts.{IsOnWay, count_here, count_none, reach, reach_less, some_space, way_back}
 use Rattle.propagation.proofs.Counts.{way_long, way_start, way_within}

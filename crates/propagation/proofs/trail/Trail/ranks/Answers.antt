@@ -1,10 +1,10 @@
 use Rattle.std.proofs.Common.{◌≡◌, ◌<◌, ◌+◌, suc, Some, length, sym, subst, arith}
 use Rattle.std.proofs.lemmas.List.{length-map}
 use Rattle.terms.specs.Terms.{TermView, term_view, terms_view}
-use Rattle.propagation.specs.Counting.{IsCount, Ranked}
+use Rattle.propagation.specs.inner.Counting.{IsCount, Ranked}
 use Rattle.incompatibilities.specs.Incompatibilities.{HoldsAt}
 use Rattle.propagation.specs.Trails.{set_of, space_of, trail_view}
-use Rattle.propagation.specs.Units.{term_at}
+use Rattle.propagation.specs.inner.Units.{term_at}
 use Rattle.propagation.proofs.Counts.{count_some}
 use Rattle.propagation.proofs.Ranking.{rank_more}
 use Rattle.propagation.proofs.Vertices.{full_at, states_of, term_fits, term_within, view_at}

@@ -1,6 +1,6 @@
 use Rattle.terms.specs.Terms.{terms_view}
 use Rattle.propagation.specs.Trails.{trail_view}
-use Rattle.propagation.specs.Counting.{Ranked}
+use Rattle.propagation.specs.inner.Counting.{Ranked}
 use Rattle.propagation.proofs.trail.Trail.ranks.Given as goal
 
 abbrev pub invariant-terms : goal.invariant-terms

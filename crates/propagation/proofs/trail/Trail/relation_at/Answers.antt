@@ -2,7 +2,7 @@ use Rattle.std.proofs.Common.{◌≡◌, ◌<◌, length, sym, ap, ◌∙◌, su
 use Rattle.std.proofs.lemmas.List.{length-map}
 use Rattle.terms.specs.Terms.{TermView, relation_of, term_view, terms_view}
 use Rattle.propagation.specs.Trails.{set_of, space_of, trail_view}
-use Rattle.propagation.specs.Units.{term_at}
+use Rattle.propagation.specs.inner.Units.{term_at}
 use Rattle.propagation.proofs.Vertices.{term_fits, term_within, view_at}
 use Rattle.propagation.proofs.trail.Trail.relation_at.Goals as goal
 

@@ -1,6 +1,6 @@
 use Rattle.std.proofs.Common.{◌≡◌, ◌<◌, ◌-◌, ℕ, zero, suc, List, length, sym, ap, subst, arith}
 use Rattle.terms.specs.Terms.{TermView, terms_view}
-use Rattle.propagation.specs.Counting.{AreRanked, Ranked}
+use Rattle.propagation.specs.inner.Counting.{AreRanked, Ranked}
 use Rattle.propagation.specs.Trails.{StepView, TrailView, trail_view}
 use Rattle.propagation.specs.declared.satisfying.Ranks.{Ranks}
 use Rattle.propagation.proofs.Satisfiers.{IsRead, forced_is, opens_is, satisfied_is}

@@ -1,7 +1,7 @@
 use Rattle.std.proofs.Common.{◌≡◌, ◌<◌, ◌-◌, suc, length, sym, ◌∙◌, subst, arith}
 use Rattle.terms.specs.Terms.{terms_view}
 use Rattle.propagation.specs.Trails.{trail_view}
-use Rattle.propagation.specs.Units.{after, relation_at}
+use Rattle.propagation.specs.inner.Units.{after, relation_at}
 use Rattle.propagation.specs.declared.propagating.Standing.TheVariants.{Quiet}
 use Rattle.propagation.proofs.Standings.{StandsFrom, after_next, stands_all}
 use Rattle.propagation.proofs.trail.Trail.standing.Goals as goal

@@ -1,7 +1,7 @@
 use Rattle.std.proofs.Common.{length}
 use Rattle.terms.specs.Terms.{terms_view}
 use Rattle.propagation.specs.Trails.{trail_view}
-use Rattle.propagation.specs.Units.{relation_at}
+use Rattle.propagation.specs.inner.Units.{relation_at}
 use Rattle.propagation.proofs.Standings.{StandsFrom}
 use Rattle.propagation.proofs.trail.Trail.standing.Given as goal
 

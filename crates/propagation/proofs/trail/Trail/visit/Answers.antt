@@ -3,8 +3,8 @@ use Rattle.std.proofs.lemmas.List.{length-map}
 use Rattle.version_sets.specs.Sets.{meet, rest}
 use Rattle.terms.specs.Terms.{TermView, term_view, terms_view}
 use Rattle.propagation.specs.Trails.{set_of, space_of, trail_view}
-use Rattle.propagation.specs.Parts.{IsPut}
-use Rattle.propagation.specs.Units.{AllHold, Neither, OneIsOpen, relation_at, term_at}
+use Rattle.propagation.specs.inner.Parts.{IsPut}
+use Rattle.propagation.specs.inner.Units.{AllHold, Neither, OneIsOpen, relation_at, term_at}
 use Rattle.propagation.proofs.Vertices.{open_one, quiet_from, sat_from, term_fits, term_within, view_at}
 use Rattle.propagation.proofs.trail.Trail.visit.Goals as goal
 

@@ -1,8 +1,8 @@
 use Rattle.std.proofs.Common.{◌≡◌, ◌<◌, ℕ, length, subst, sym, arith, List, map}
 use Rattle.propagation.specs.Trails.{set_of, trail_view}
 use Rattle.propagation.proofs.Vertices.{view_at}
-use Rattle.guiding.specs.Searching.{IsOnly}
-use Rattle.search_tests.specs.Demands.{pair_at}
+use Rattle.guiding.specs.inner.Searching.{IsOnly}
+use Rattle.search_tests.specs.inner.Demands.{pair_at}
 use Rattle.search_tests.specs.declared.demanding.Pending.{Pending}
 use Rattle.search_tests.proofs.Demanded.{one_more}
 use Rattle.search_tests.proofs.demanding.Demanding.first_alone.Goals as goal

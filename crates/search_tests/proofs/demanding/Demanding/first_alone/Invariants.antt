@@ -1,7 +1,7 @@
 use Rattle.std.proofs.Common.{◌<◌, ℕ, length, List, map}
 use Rattle.propagation.specs.Trails.{set_of, trail_view}
-use Rattle.guiding.specs.Searching.{IsOnly}
-use Rattle.search_tests.specs.Demands.{pair_at}
+use Rattle.guiding.specs.inner.Searching.{IsOnly}
+use Rattle.search_tests.specs.inner.Demands.{pair_at}
 use Rattle.search_tests.specs.declared.demanding.Pending.{Pending}
 use Rattle.search_tests.proofs.demanding.Demanding.first_alone.Given as goal
 

@@ -3,13 +3,13 @@ use Rattle.std.specs.List.{remove}
 use Rattle.std.proofs.lemmas.List.{length-map}
 use Rattle.incompatibilities.specs.Stores.{entries_view}
 use Rattle.propagation.specs.Trails.{trail_view}
-use Rattle.propagation.specs.Widening.{sum_of}
+use Rattle.propagation.specs.inner.Widening.{sum_of}
 use Rattle.propagation.proofs.Vertices.{view_at}
-use Rattle.guiding.specs.Searching.{HasSpaces}
-use Rattle.guiding.specs.Turning.{IsAdding}
+use Rattle.guiding.specs.inner.Searching.{HasSpaces}
+use Rattle.guiding.specs.inner.Turning.{IsAdding}
 use Rattle.guiding.proofs.Guides.{spaces_wider}
 use Rattle.guiding.proofs.Seen.{seen_none}
-use Rattle.search_tests.specs.Demands.{HasCome, IsPutOf, asked_of, pair_at}
+use Rattle.search_tests.specs.inner.Demands.{HasCome, IsPutOf, asked_of, pair_at}
 use Rattle.search_tests.specs.declared.demanding.Pending.{Pending}
 use Rattle.search_tests.proofs.Demanded.{adding_none, adding_one, map-remove, ones_asked}
 use Rattle.search_tests.proofs.demanding.DemandingGuide.axioms.Goals as goal

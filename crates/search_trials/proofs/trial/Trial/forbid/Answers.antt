@@ -4,7 +4,7 @@ use Rattle.incompatibilities.specs.Stores.{EntryView, entries_view}
 use Rattle.incompatibilities.specs.declared.origin.Origin.TheVariants.{Axiom}
 use Rattle.terms.specs.Terms.{terms_view}
 use Rattle.propagation.specs.Trails.{trail_view}
-use Rattle.search_trials.specs.Meeting.{AreFit, IsMeeting, universe_at}
+use Rattle.search_trials.specs.inner.Meeting.{AreFit, IsMeeting, universe_at}
 use Rattle.search_trials.proofs.Fitting.{meets_more}
 use Rattle.search_trials.proofs.trial.Trial.forbid.Goals as goal
 

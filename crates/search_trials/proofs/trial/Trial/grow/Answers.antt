@@ -2,7 +2,7 @@ use Rattle.std.proofs.Common.{[], ◌∷◌, ◌++◌, ap, ◌∙◌, sym, subst
 use Rattle.incompatibilities.specs.Stores.{entries_view}
 use Rattle.propagation.specs.Trails.{trail_view}
 use Rattle.propagation.proofs.Widened.{below_proper}
-use Rattle.search_trials.specs.Meeting.{IsMeeting}
+use Rattle.search_trials.specs.inner.Meeting.{IsMeeting}
 use Rattle.search_trials.proofs.Fitting.{meets_wider}
 use Rattle.search_trials.proofs.trial.Trial.grow.Goals as goal
 

@@ -1,7 +1,7 @@
 use Rattle.std.proofs.Common.{ℕ, List, [], length, sym, ap, subst, arith}
 use Rattle.propagation.specs.Promises.{IsNew}
 use Rattle.propagation.specs.Trails.{trail_view}
-use Rattle.search_trials.specs.Meeting.{IsMeeting}
+use Rattle.search_trials.specs.inner.Meeting.{IsMeeting}
 use Rattle.search_trials.proofs.Fitting.{meets_at_first}
 use Rattle.search_trials.proofs.trial.Trial.new.Goals as goal
 

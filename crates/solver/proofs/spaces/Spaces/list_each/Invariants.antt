@@ -1,5 +1,5 @@
 use Rattle.std.proofs.Common.{◌≡◌, All, take}
-use Rattle.numbering.specs.KnownProblem.{problem}
+use Rattle.numbering.specs.inner.KnownProblem.{problem}
 use Rattle.solver.specs.Refusing.{AreKept, AreListed, AreSpelt, IsListed}
 use Rattle.solver.proofs.spaces.Spaces.list_each.Given as goal
 

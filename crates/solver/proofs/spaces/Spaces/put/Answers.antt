@@ -1,8 +1,8 @@
 use Rattle.std.proofs.Common.{◌≡◌, Some, is_some, slice_get, sym, ap, ◌∙◌, subst, true}
 use Rattle.std.proofs.lemmas.Option.{same_Some}
 use Rattle.model.specs.Vertices.{Vertex, space}
-use Rattle.vertices.specs.RefViews.{state_ref_views, vertex_ref_view}
-use Rattle.numbering.specs.KnownProblem.{problem}
+use Rattle.vertices.specs.inner.RefViews.{state_ref_views, vertex_ref_view}
+use Rattle.numbering.specs.inner.KnownProblem.{problem}
 use Rattle.solver.proofs.Listed.{kept_listed, one_more, put_listed}
 use Rattle.solver.proofs.spaces.Spaces.put.Goals as goal
 

@@ -1,6 +1,6 @@
 use Rattle.std.proofs.Common.{◌∙◌, ap, not}
 use Rattle.version_sets.specs.Sets.{has}
-use Rattle.version_sets.specs.Listed.{set_where}
+use Rattle.version_sets.specs.inner.Listed.{set_where}
 use Rattle.version_sets.proofs.Listing.{is_list, rest_is, set_is}
 use Rattle.version_sets.proofs.list.ListStatesStates.complement.Goals as goal
 

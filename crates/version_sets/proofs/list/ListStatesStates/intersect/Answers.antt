@@ -1,7 +1,7 @@
 use Rattle.std.proofs.Common.{◌≡◌, ◌∙◌, ap, ◌&&◌}
 use Rattle.std.specs.List.{filter}
 use Rattle.version_sets.specs.Sets.{has}
-use Rattle.version_sets.specs.Listed.{list_where, set_where}
+use Rattle.version_sets.specs.inner.Listed.{list_where, set_where}
 use Rattle.version_sets.proofs.Listing.{filter_is, is_list, meet_is, set_is}
 use Rattle.version_sets.proofs.list.ListStatesStates.intersect.Goals as goal
 

@@ -1,5 +1,5 @@
 use Rattle.std.proofs.Common.{◌≤◌, ◌∙◌, ap, sym, subst, length}
-use Rattle.version_sets.specs.Listed.{is_listed}
+use Rattle.version_sets.specs.inner.Listed.{is_listed}
 use Rattle.version_sets.proofs.Listing.{length-set_where}
 use Rattle.version_sets.proofs.list.ListStatesStates.universe.Goals as goal
 

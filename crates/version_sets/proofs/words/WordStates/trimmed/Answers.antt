@@ -1,6 +1,6 @@
 use Rattle.std.proofs.Common.{◌≡◌, ◌-◌, ap, length, rules, set, bit_and}
-use Rattle.version_sets.specs.Listed.{set_where}
-use Rattle.version_sets.specs.Words.{has_bit}
+use Rattle.version_sets.specs.inner.Listed.{set_where}
+use Rattle.version_sets.specs.inner.Words.{has_bit}
 use Rattle.version_sets.proofs.Filled.{trim_last}
 use Rattle.version_sets.proofs.Pairs.{made_is}
 use Rattle.version_sets.proofs.words.WordStates.trimmed.Goals as goal

@@ -1,6 +1,6 @@
 use Rattle.std.proofs.Common.{◌∙◌, ap, sym, subst}
-use Rattle.version_sets.specs.Forms.{words_in}
-use Rattle.version_sets.specs.Words.{AreWords}
+use Rattle.version_sets.specs.inner.Forms.{words_in}
+use Rattle.version_sets.specs.inner.Words.{AreWords}
 use Rattle.version_sets.proofs.Pairs.{form_words}
 use Rattle.version_sets.proofs.words.WordStates.words.Goals as goal
 

@@ -1,7 +1,7 @@
 use Rattle.std.proofs.Common.{◌<◌, ◌^◌, ◌∙◌, ℕ, ◌∷◌, [], ap, sym, subst, get_or}
-use Rattle.version_sets.specs.Listed.{set_where}
+use Rattle.version_sets.specs.inner.Listed.{set_where}
 use Rattle.version_sets.specs.Sets.{rest}
-use Rattle.version_sets.specs.Words.{has_bit}
+use Rattle.version_sets.specs.inner.Words.{has_bit}
 use Rattle.version_sets.proofs.Filled.{turned_fits}
 use Rattle.version_sets.proofs.Pairs.{made_is, turned_set}
 use Rattle.version_sets.proofs.words.WordStatesStates.complement.Goals as goal

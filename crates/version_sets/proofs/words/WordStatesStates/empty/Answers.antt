@@ -1,7 +1,7 @@
 use Rattle.std.proofs.Common.{◌-◌, ◌/◌, ◌+◌, ◌∙◌, ap}
-use Rattle.version_sets.specs.Listed.{set_where}
+use Rattle.version_sets.specs.inner.Listed.{set_where}
 use Rattle.version_sets.specs.Sets.{none}
-use Rattle.version_sets.specs.Words.{has_bit}
+use Rattle.version_sets.specs.inner.Words.{has_bit}
 use Rattle.version_sets.proofs.Filled.{zeros_are}
 use Rattle.version_sets.proofs.Pairs.{made_is}
 use Rattle.version_sets.proofs.words.WordStatesStates.empty.Goals as goal

@@ -1,7 +1,7 @@
 use Rattle.std.proofs.Common.{◌∷◌, ◌∙◌, [], ap, sym, subst}
-use Rattle.version_sets.specs.Listed.{set_where}
+use Rattle.version_sets.specs.inner.Listed.{set_where}
 use Rattle.version_sets.specs.Sets.{meet}
-use Rattle.version_sets.specs.Words.{IsWords, has_bit}
+use Rattle.version_sets.specs.inner.Words.{IsWords, has_bit}
 use Rattle.version_sets.proofs.Pairs.{made_is, pair_and, pair_and_words}
 use Rattle.version_sets.proofs.words.WordStatesStates.intersect.Goals as goal
 

@@ -1,7 +1,7 @@
 use Rattle.std.proofs.Common.{◌-◌, ◌/◌, ◌+◌, ◌∙◌, ap, sym, subst, refl, set}
-use Rattle.version_sets.specs.Listed.{set_where}
+use Rattle.version_sets.specs.inner.Listed.{set_where}
 use Rattle.version_sets.specs.Sets.{only}
-use Rattle.version_sets.specs.Words.{IsWords, has_bit}
+use Rattle.version_sets.specs.inner.Words.{IsWords, has_bit}
 use Rattle.version_sets.proofs.Filled.{lone_bit, one_is, one_set}
 use Rattle.version_sets.proofs.Pairs.{made_is}
 use Rattle.version_sets.proofs.words.WordStatesStates.single.Goals as goal

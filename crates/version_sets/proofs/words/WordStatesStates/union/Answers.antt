@@ -1,7 +1,7 @@
 use Rattle.std.proofs.Common.{◌∷◌, ◌∙◌, [], ap, sym, subst}
-use Rattle.version_sets.specs.Listed.{set_where}
+use Rattle.version_sets.specs.inner.Listed.{set_where}
 use Rattle.version_sets.specs.Sets.{join}
-use Rattle.version_sets.specs.Words.{IsWords, has_bit}
+use Rattle.version_sets.specs.inner.Words.{IsWords, has_bit}
 use Rattle.version_sets.proofs.Pairs.{made_is, pair_or, pair_or_words}
 use Rattle.version_sets.proofs.words.WordStatesStates.union.Goals as goal
 

@@ -1,5 +1,5 @@
 use Rattle.std.proofs.Common.{◌∙◌, ap, sym}
-use Rattle.version_sets.specs.Forms.{universe_in}
+use Rattle.version_sets.specs.inner.Forms.{universe_in}
 use Rattle.version_sets.proofs.Pairs.{form_small, form_universe}
 use Rattle.version_sets.proofs.words.WordStatesStates.universe.Goals as goal
 

@@ -1,0 +1,5 @@
+pub mod Changed
+pub mod OnWays
+pub mod Searches
+pub mod Views
+pub mod Ways

@@ -1,0 +1,9 @@
+pub mod Origins
+pub mod Views
+pub mod StepViews
+pub mod Tables
+pub mod Derivations
+pub mod References
+pub mod Building
+pub mod Named
+pub mod Earlier

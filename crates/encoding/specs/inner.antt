@@ -1,0 +1,2 @@
+pub mod Everything
+pub mod Rows

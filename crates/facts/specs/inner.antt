@@ -1,0 +1,9 @@
+pub mod Graphs
+pub mod ByName
+pub mod FactNumbers
+pub mod RuleLists
+pub mod Answers
+pub mod Chains
+pub mod Lists
+pub mod Worklists
+pub mod Nodes

@@ -1,0 +1,5 @@
+pub mod Reasons
+pub mod Flaws
+pub mod Unsummed
+pub mod Lacks
+pub mod Views

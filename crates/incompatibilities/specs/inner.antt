@@ -1,0 +1,4 @@
+pub mod Merging
+pub mod Rows
+pub mod Indexed
+pub mod Counts

@@ -1,0 +1,3 @@
+pub mod FullTerms
+pub mod Keeping
+pub mod KeptViews

@@ -1,0 +1,11 @@
+pub mod Matching
+pub mod Ranges
+pub mod Views
+pub mod CauseViews
+pub mod Sets
+pub mod TermViews
+pub mod Needs
+pub mod ByName
+pub mod Numbers
+pub mod NumbersViews
+pub mod NamedByTerms

@@ -1,0 +1,5 @@
+pub mod Places
+pub mod Reasons
+pub mod Blame
+pub mod Lines
+pub mod Finding

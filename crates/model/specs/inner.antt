@@ -1,0 +1,3 @@
+pub mod Assignment
+pub mod Search
+pub mod ContentOf

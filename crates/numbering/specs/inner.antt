@@ -1,0 +1,16 @@
+pub mod CausesAt
+pub mod Assignments
+pub mod Numbered
+pub mod Absences
+pub mod Finals
+pub mod KnownProblem
+pub mod TestedTerms
+pub mod ByClass
+pub mod Lists
+pub mod Called
+pub mod OnPackage
+pub mod Asked
+pub mod Indexed
+pub mod IndexedViews
+pub mod Matched
+pub mod MatchedViews

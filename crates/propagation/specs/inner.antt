@@ -1,0 +1,4 @@
+pub mod Parts
+pub mod Units
+pub mod Counting
+pub mod Widening

@@ -1,0 +1,4 @@
+pub mod Terms
+pub mod Instances
+pub mod Checks
+pub mod Listed

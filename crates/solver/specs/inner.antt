@@ -1,0 +1,5 @@
+pub mod Flats
+pub mod Marks
+pub mod Decoding
+pub mod Steps
+pub mod Leads

@@ -1,0 +1,3 @@
+pub mod RefViews
+pub mod Same
+pub mod Valid
