@@ -134,7 +134,7 @@ fn pinned_told<F: Folder, P: Folder>(
 ) -> Result<Outcome, Fault> {
     let prefer = preference(alloc, bytes, wish)?;
     let answer = new_lock(alloc, pinned, &precise.rest, prefer)?;
-    match &answer {
+    match &*answer {
         Answer::Lock {
             bytes: new,
             kept,

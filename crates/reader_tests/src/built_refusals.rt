@@ -4,6 +4,7 @@ ghost use Rattle.std.specs.Prelude.{◌∷◌, []};
 ghost use Rattle.derivations.specs.inner.Building.{AreNewTerms};
 ghost use Rattle.derivations.specs.inner.Named.{named_view};
 
+use crate::refusals::boxed;
 use derivations::{Derivation, NamedTerm, write};
 use std::alloc::{AllocError, Global};
 use std::test::Fail;
@@ -53,7 +54,7 @@ fn push_end(alloc: Global, steps: &mut Derivation) -> Result<(), AllocError> {
 
 #[test]
 fn builds_in_any_order(rt: HostRuntime) -> Result<(), Fail> {
-    let mut steps = Derivation::new(rt.alloc());
+    let mut steps = boxed(rt.alloc(), Derivation::new(rt.alloc()))?;
     push_turned(rt.alloc(), &mut steps)?;
     push_end(rt.alloc(), &mut steps)?;
     let lines = write(rt.alloc(), &steps)?;

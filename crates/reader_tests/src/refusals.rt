@@ -1,7 +1,7 @@
 //! Derivations, read and written.
 
 use derivations::{DerivationFault, read, write};
-use std::alloc::Global;
+use std::alloc::{AllocError, Global};
 use std::test::Fail;
 
 /// A root that needs a 1.0.0 alone, and b, whose one version needs a 1.1.0 alone.
@@ -41,9 +41,14 @@ const IN_ORDER: &str =
 const VERTICES: &str =
     "{\"axiom\":\"X0\",\"terms\":[[\"ask a@1.0.0 7 g\",[]],[\"dep a@1.0.0-x+y 4294967295\",[]],[\"dep root 0\",[]],[\"feat a 1 c++\",[]],[\"pkg a 0.0.0\",[]],[\"pkg a 0.3\",[]],[\"pkg a 1\",[]],[\"pkg a-b_C 18446744073709551615\",[]],[\"root\",[]]]}\n";
 
+/// A value behind a box, since a check goes through all that a test owns wherever it can end.
+pub(crate) fn boxed<T: Drop>(alloc: Global, value: T) -> Result<Box<T>, AllocError> {
+    Ok(Box::new(alloc, value)?)
+}
+
 /// Whether a text is written as another.
 fn is_written_as(alloc: Global, text: &str, wanted: &str) -> Result<bool, DerivationFault> {
-    let derivation = read(alloc, text.as_bytes())?;
+    let derivation = boxed(alloc, read(alloc, text.as_bytes())?)?;
     let written = write(alloc, &derivation)?;
     Ok(written.as_slice() == wanted.as_bytes())
 }

@@ -2,7 +2,7 @@
 
 ghost use Rattle.std.specs.Prelude.{◌≡◌};
 
-use crate::problems::{SOURCE, TWO, folder_of};
+use crate::problems::{SOURCE, TWO, boxed, folder_of};
 use catalogue::{Prefer, Source};
 use index_reader::{FailAt, Folder, FolderFault};
 use resolver::{Answer, resolve};
@@ -62,7 +62,7 @@ fn said(alloc: Global, k: u64) -> Result<String, AllocError> {
         &source,
         Prefer::Newest,
     );
-    match answer {
+    match &*boxed(alloc, answer)? {
         Ok(Answer::Lock { .. }) => format!(in alloc; "a lock; {}", folder.paths),
         Ok(Answer::Unsolvable { .. }) => format!(in alloc; "unsolvable; {}", folder.paths),
         Err(fault) => format!(in alloc; "{fault}; {}", folder.paths),

@@ -176,9 +176,14 @@ pub(crate) fn folder_of(alloc: Global, files: &Files) -> Result<MemoryFolder, Al
     Ok(MemoryFolder::new(alloc, map))
 }
 
+/// A value behind a box, since a check goes through all that a test owns wherever it can end.
+pub(crate) fn boxed<T: Drop>(alloc: Global, value: T) -> Result<Box<T>, AllocError> {
+    Ok(Box::new(alloc, value)?)
+}
+
 /// What the manifest says.
-pub(crate) fn manifest_of(alloc: Global, files: &Files) -> Result<Manifest, ManifestFault> {
-    Manifest::read(alloc, files.manifest.as_bytes())
+pub(crate) fn manifest_of(alloc: Global, files: &Files) -> Result<Box<Manifest>, ManifestFault> {
+    Ok(boxed(alloc, Manifest::read(alloc, files.manifest.as_bytes())?)?)
 }
 
 /// The index, loaded without an old lock.
@@ -186,10 +191,11 @@ pub(crate) fn load_files(
     alloc: Global,
     files: &Files,
     manifest: &Manifest,
-) -> Result<Catalogue, LoadFault> {
+) -> Result<Box<Catalogue>, LoadFault> {
     let mut folder = folder_of(alloc, files)?;
     let Ok(source) = Source::parse(alloc, SOURCE) else {
         return Err(LoadFault::OutOfMemory);
     };
-    load(alloc, manifest, &mut folder, None, &source, Prefer::Newest)
+    let catalogue = load(alloc, manifest, &mut folder, None, &source, Prefer::Newest)?;
+    Ok(boxed(alloc, catalogue)?)
 }

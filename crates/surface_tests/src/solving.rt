@@ -1,6 +1,6 @@
 //! Searches, derivations, and the calls from bytes to an answer.
 
-use crate::problems::{PLAIN, REFUSED, SOURCE, folder_of, load_files, manifest_of};
+use crate::problems::{PLAIN, REFUSED, SOURCE, boxed, folder_of, load_files, manifest_of};
 use catalogue::{Catalogue, Prefer, Source};
 use checker::{Check, check};
 use derivations::{Derivation, DerivationFault, read, write};
@@ -55,9 +55,14 @@ fn is_told(alloc: Global, derivation: &Derivation) -> Result<bool, AllocError> {
     Ok(told.as_str() == TOLD)
 }
 
+/// The derivation of those lines.
+fn refutation(alloc: Global) -> Result<Box<Derivation>, DerivationFault> {
+    Ok(boxed(alloc, read(alloc, LINES.as_bytes())?)?)
+}
+
 #[test]
 fn writes_and_tells_a_derivation(rt: HostRuntime) -> Result<(), Fail> {
-    let derivation = read(rt.alloc(), LINES.as_bytes())?;
+    let derivation = refutation(rt.alloc())?;
     assert!(rt; is_written(rt.alloc(), &derivation)?);
     assert!(rt; is_told(rt.alloc(), &derivation)?);
     Ok(())
@@ -69,7 +74,7 @@ fn proves(
     manifest: &Manifest,
     catalogue: &Catalogue,
 ) -> Result<bool, DerivationFault> {
-    let derivation = read(alloc, LINES.as_bytes())?;
+    let derivation = refutation(alloc)?;
     Ok(check(alloc, manifest, catalogue, &derivation)? == Check::Proves)
 }
 

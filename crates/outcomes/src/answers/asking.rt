@@ -29,19 +29,25 @@ fn own_source(alloc: Global, bytes: &Bytes) -> Result<Source, AllocError> {
     }
 }
 
+/// A value behind a box, since a check goes through all that a function owns wherever it can end.
+fn boxed<T: Drop>(alloc: Global, value: T) -> Result<Box<T>, AllocError> {
+    Ok(Box::new(alloc, value)?)
+}
+
 /// What `resolve` answers.
 pub(crate) fn new_lock<F: Folder>(
     alloc: Global,
     folder: &mut F,
     bytes: &Bytes,
     prefer: Prefer,
-) -> Result<Answer, Fault> {
+) -> Result<Box<Answer>, Fault> {
     let source = own_source(alloc, bytes)?;
     let lock = match &bytes.lock {
         Some(lock) => Some(lock.as_slice()),
         None => None,
     };
-    resolve(alloc, &bytes.manifest, folder, lock, &source, prefer)
+    let answer = resolve(alloc, &bytes.manifest, folder, lock, &source, prefer)?;
+    Ok(boxed(alloc, answer)?)
 }
 
 /// Whether the lock is valid, and what was loaded for that.
@@ -63,17 +69,18 @@ pub(crate) fn lock_in(bytes: &Bytes) -> &[u8] {
 }
 
 /// What the files say, for a report, the newest versions preferred.
-pub(crate) fn inputs_in(alloc: Global, bytes: &Bytes) -> Result<Inputs, Fault> {
+pub(crate) fn inputs_in(alloc: Global, bytes: &Bytes) -> Result<Box<Inputs>, Fault> {
     let manifest = Manifest::read(alloc, &bytes.manifest)?;
     let lock = match &bytes.lock {
         Some(lock) => Some(lockfile::read(alloc, lock)?),
         None => None,
     };
     let source = own_source(alloc, bytes)?;
-    Ok(Inputs {
+    let inputs = Inputs {
         manifest,
         lock,
         source,
         prefer: Prefer::Newest,
-    })
+    };
+    Ok(boxed(alloc, inputs)?)
 }
