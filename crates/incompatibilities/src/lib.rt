@@ -11,8 +11,9 @@
 //! comes out within a chain is no entry: no store keeps it, and who needs it combines again.
 //!
 //! Entries are only added, and an `Id` means one entry for good, so what was said of a store holds of the grown one.
-//! The store lists all entries by the vertices of their terms (`at`), with the states of the terms beside (`states_at`).
-//! What who resolves conflicts wants to find again stands there too (`Notes`); nothing rests on it.
+//! The store lists all entries by the vertices of their terms (`at`), with the states of the terms (`states_at`) and
+//! their numbers (`sizes_at`) beside. What who resolves conflicts wants to find again stands there too (`Notes`);
+//! nothing rests on it.
 //!
 //! A layer above may rely on this: the contracts of `combine` and `add` are exact, and where memory is wanting `add`
 //! leaves all entries as they were.

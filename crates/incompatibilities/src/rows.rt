@@ -1,10 +1,12 @@
 //! The index of a store: for each vertex the places of the incompatibilities with a term there, and beside them the
-//! states of that term, so that who goes through a row reads memory in order: most often these are all that has to be
-//! looked at, and the incompatibility and its terms lie elsewhere.
+//! states of that term and how many they are, so that who goes through a row reads memory in order: most often these
+//! are all that has to be looked at, and the incompatibility and its terms lie elsewhere. How many they are has a row of
+//! its own, since a large set's words lie elsewhere too.
 
 ghost use Rattle.incompatibilities.specs.inner.Rows.{HasRoom, IsApart, IsGrown, listed_in, row_at, stands_in};
 ghost use Rattle.std.specs.Prelude.{◌≡◌, ◌≢◌, ◌++◌, ◌∷◌, [], ℕ, IfOk, OnOk, map, true};
 ghost use Rattle.terms.specs.Terms.{term_view, terms_view};
+ghost use Rattle.version_sets.specs.Sets.{size};
 
 use crate::origin::Id;
 use std::alloc::{AllocError, Global};
@@ -86,23 +88,28 @@ fn push_at<E: Drop>(rows: &mut Vec<Vec<E>>, vertex: usize, item: E)
     rows[vertex].push_reserved(item);
 }
 
-/// Puts a place and the states of each term at the ends of the rows of the term's vertex.
-pub(crate) fn push_rows<S: Drop>(
+/// Puts a place, and the states of each term and how many they are, at the ends of the rows of the term's vertex.
+pub(crate) fn push_rows<S: States + Drop>(
     ids: &mut Vec<Vec<Id>>,
     sets: &mut Vec<Vec<S>>,
+    sizes: &mut Vec<Vec<u32>>,
     terms: Vec<Term<S>>,
     id: Id,
 )
     requires ids { (v : ℕ) → stands_in v (map (λ t. t.vertex) terms.items) ≡ true → HasRoom ids.old.items v }
     requires sets { (v : ℕ) → stands_in v (map (λ t. t.vertex) terms.items) ≡ true → HasRoom sets.old.items v }
+    requires sizes { (v : ℕ) → stands_in v (map (λ t. t.vertex) terms.items) ≡ true → HasRoom sizes.old.items v }
     requires apart { IsApart (map (λ t. t.vertex) terms.items) }
     ensures ids { (v : ℕ) → row_at ids.new.items v ≡ row_at ids.old.items v ++ listed_in (λ t. id) v terms.items }
     ensures sets { (v : ℕ) → row_at sets.new.items v
         ≡ row_at sets.old.items v ++ listed_in (λ t. t.states) v terms.items }
+    ensures sizes { (v : ℕ) → row_at sizes.new.items v
+        ≡ row_at sizes.old.items v ++ listed_in (λ t. size (S.tests t.states)) v terms.items }
 {
     'terms: for term in terms {
         let Term { vertex, states } = term;
         push_at(ids, vertex, id);
+        push_at(sizes, vertex, states.count());
         push_at(sets, vertex, states);
     }
 }

@@ -1,4 +1,5 @@
 use Rattle.std.proofs.Common.{◌≡◌, ◌∙◌, ◌++◌, true, ap, subst}
+use Rattle.version_sets.specs.Sets.{size}
 use Rattle.terms.specs.Terms.{terms_view}
 use Rattle.incompatibilities.specs.inner.Rows.{listed_in, stands_in}
 use Rattle.incompatibilities.proofs.RowLemmas.{same_vertices}
@@ -17,6 +18,12 @@ push_rows-requires-clause-sets g c v s =
     c.in_ok-copies.ensures in
     c.in_ok-reserve_rows-2.ensures.room v (subst (λ vs. stands_in v vs ≡ true) same s)
 
+pub push_rows-requires-clause-sizes : goal.push_rows-requires-clause-sizes
+push_rows-requires-clause-sizes g c v s =
+    let same = same_vertices g.S.States.tests c.in_ok-copies.copies.items c.terms-terms.result.now
+    c.in_ok-copies.ensures in
+    c.in_ok-reserve_rows-3.ensures.room v (subst (λ vs. stands_in v vs ≡ true) same s)
+
 pub push_rows-requires-clause-apart : goal.push_rows-requires-clause-apart
 push_rows-requires-clause-apart g c =
     let tests = g.S.States.tests in
@@ -31,6 +38,9 @@ returns-clause-listed g c =
       c.in_ok-copies.ensures ∙ ap (terms_view tests) c.terms-terms.ensures.terms,
       (λ v. c.push_rows.ensures.ids v
           ∙ ap (λ l. l ++ listed_in (λ t. c.args.id) v copies) (c.in_ok-reserve_rows.ensures.grown.same v)),
-      λ v. c.push_rows.ensures.sets v
-          ∙ ap (λ l. l ++ listed_in (λ t. t.states) v copies) (c.in_ok-reserve_rows-2.ensures.grown.same v),
+      (λ v. c.push_rows.ensures.sets v
+          ∙ ap (λ l. l ++ listed_in (λ t. t.states) v copies) (c.in_ok-reserve_rows-2.ensures.grown.same v)),
+      λ v. c.push_rows.ensures.sizes v
+          ∙ ap (λ l. l ++ listed_in (λ t. size (tests t.states)) v copies)
+          (c.in_ok-reserve_rows-3.ensures.grown.same v),
     )
