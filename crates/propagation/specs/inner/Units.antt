@@ -9,7 +9,7 @@ use Rattle.terms.specs.declared.term.Relation.TheVariants.{Satisfied, Contradict
 use Rattle.incompatibilities.specs.Incompatibilities.{IsIncompatibility, LiesIn, Terms, states_at}
 use Rattle.incompatibilities.specs.Stores.{EntryView, terms_of}
 use Rattle.propagation.specs.Trails.{StepView, TrailView, set_of, space_of, step_at, total}
-use Rattle.propagation.specs.Satisfaction.{IsOneOpen, IsQuiet, Sat}
+use Rattle.propagation.specs.Satisfaction.{IsOneOpen, IsQuiet, Sat, is_within}
 use Rattle.propagation.specs.inner.Parts.{IsPut}
 use Rattle.propagation.specs.Promises.{NoneDecided, Follows, IsLonger, IsTrail, Rests, IsProgress, counted}
 use Rattle.propagation.specs.declared.propagating.Progress.{Progress}
@@ -68,6 +68,10 @@ abbrev pub Visited : TrailView → TrailView → Terms → ℕ → Option Bool �
 Visited old new f id None = (new ≡ old) × Sat old.sets f
 Visited old new f id (Some false) = (new ≡ old) × IsQuiet old.sets f
 Visited old new f id (Some true) = IsForcing old new f id
+
+-- where all states that are left are within an entry's term, they stay: what it forces stands at another vertex
+abbrev pub KeepsHeld : List Members → List Members → Terms → Type 0
+KeepsHeld old new f = (v : ℕ) → is_within (set_of old v) (f v) ≡ true → set_of new v ≡ set_of old v
 
 -- every place is of one level
 abbrev pub AreAt : ℕ → List StepView → Type 0

@@ -1,8 +1,8 @@
-use Rattle.std.proofs.Common.{rules, ◌≡◌, ◌<◌, ◌∙◌, false, [], length, sym, ap, subst}
+use Rattle.std.proofs.Common.{rules, ◌≡◌, ◌<◌, ◌∙◌, true, false, [], length, sym, ap, subst}
 use Rattle.incompatibilities.specs.Stores.{entries_view, terms_of}
 use Rattle.propagation.specs.Satisfaction.{is_within}
 use Rattle.propagation.specs.Trails.{set_of, trail_view}
-use Rattle.propagation.proofs.Looking.{looked_again, passed_over, vertex_within}
+use Rattle.propagation.proofs.Looking.{looked_again, passed_over, still_by, vertex_within}
 use Rattle.propagation.proofs.trail.Trail.look_again.Goals as goal
 
 pub is_within-requires-clause-vertex : goal.is_within-requires-clause-vertex
@@ -20,6 +20,16 @@ returns-then-is_within-clause-looked g c =
     let tests = g.S.States.tests in
     looked_again (entries_view tests c.args.store.now) (trail_view tests c.args.self.now)
     (trail_view tests c.look.new.self) c.args.id c.look.result c.requires.waits c.look.ensures.looked
+
+pub returns-then-is_within-clause-still : goal.returns-then-is_within-clause-still
+returns-then-is_within-clause-still g c =
+    let tests = g.S.States.tests in
+    let es = entries_view tests c.args.store.now in
+    let old = (trail_view tests c.args.self.now).sets in
+    let new = (trail_view tests c.look.new.self).sets in
+    let on : c.is_within.result ≡ true = search rules in
+    still_by old new (terms_of es c.args.id) c.args.vertex c.look.result
+    (ap (is_within (set_of old c.args.vertex)) c.requires.states ∙ sym c.is_within.ensures ∙ on) c.look.ensures.held
 
 pub returns-clause-looked : goal.returns-clause-looked
 returns-clause-looked g c =
