@@ -1,7 +1,7 @@
 -- Of three versions that rise, with one pre-release or none, the middle one is matched where the others are.
 use Rattle.std.proofs.Common.{◌≡◌, ℕ, zero, suc, ◌+◌, ◌-◌, ◌<◌, ◌≤◌, ◌==◌, nat_lt, nat_le, Bool, true, false, not}
 use Rattle.std.proofs.Common.{cond, ◌&&◌, ◌||◌, List, [], ◌∷◌, ◌++◌, length, map, filter, take, drop, get_or, Option}
-use Rattle.std.proofs.Common.{Some}
+use Rattle.std.proofs.Common.{Some, replicate}
 use Rattle.std.proofs.Common.{None, Ordering, refl, sym, ap, ap₂, ◌∙◌, subst, arith, true≢false, inl, inr, ◌⊎◌}
 use Rattle.std.specs.Cmp.Lexicographic.{pointwise}
 use Rattle.std.specs.List.{list_all}
@@ -23,7 +23,7 @@ use Rattle.semver.specs.declared.Op.TheVariants as op
 use Rattle.semver.specs.declared.Version.{Version}
 use Rattle.model.specs.Order.{precedence}
 use Rattle.model.proofs.Same.{both}
-use Rattle.lookups.specs.inner.Matching.{is_left, is_release, is_whole, is_whole_with}
+use Rattle.lookups.specs.inner.Matching.{is_left, is_release, is_whole, is_whole_with, tests_of_range}
 use Rattle.lookups.specs.inner.Ranges.{AreRising}
 use Rattle.lookups.proofs.Pieces.{parts_filtered, skipped}
 
@@ -440,13 +440,58 @@ all_there p [] e k d within = absurd (omega (arith, within))
 all_there p (x ∷ xs) e zero d within = (both (p x) (list_all p xs) e).0
 all_there p (x ∷ xs) e (suc k) d within = all_there p xs (both (p x) (list_all p xs) e).1 k d (omega (arith, within))
 
--- what lies between the first that is matched and the last is left out
+-- all of a requirement's comparators are whole, all versions are releases, and the one at a place is matched
+abbrev Begins : List Held → List Version → ℕ → Type 0
+Begins cs vs i = (list_all is_whole cs ≡ true) × ((list_all (λ v. is_release (parts_of v)) vs ≡ true)
+    × ((d : Version) → matches_views cs (parts_of (get_or vs i d)) ≡ true))
+
+-- the last of the first j is matched
+abbrev Ends : List Held → List Version → ℕ → Type 0
+Ends cs vs j = (n : ℕ) (d : Version) → suc n ≡ j → matches_views cs (parts_of (get_or vs n d)) ≡ true
+
+-- what lies between the first that is matched and the last is matched
+module _ (cs : List Held) (vs : List Version) (i j : ℕ) (rising : AreRising vs) where
+  at : (k : ℕ) (d : Version) → get_or (drop i vs) k d ≡ get_or vs (i + k) d
+  at k d = get_or-drop i vs k d
+
+  by_three : (k n : ℕ) → i + k < length vs → i + n < length vs → k < n → Begins cs vs i → (d : Version)
+      → matches_views cs (parts_of (get_or vs (i + n) d)) ≡ true
+      → matches_views cs (parts_of (get_or vs (i + k) d)) ≡ true
+  by_three zero n inside p l h d m = subst (λ x. matches_views cs (parts_of (get_or vs x d)) ≡ true) (omega arith)
+      (h.1.1 d)
+  by_three (suc k) n inside p l h d m = between cs h.0 (parts_of (get_or vs i d))
+      (parts_of (get_or vs (i + suc k) d)) (parts_of (get_or vs (i + n) d))
+      (rising i (i + suc k) d (omega arith) inside) (rising (i + suc k) (i + n) d (omega (arith, l)) p)
+      (all_there (λ v. is_release (parts_of v)) vs h.1.0 i d (omega (arith, inside)))
+      (all_there (λ v. is_release (parts_of v)) vs h.1.0 (i + suc k) d inside)
+      (all_there (λ v. is_release (parts_of v)) vs h.1.0 (i + n) d p) (h.1.1 d) m
+
+  middle : i ≤ length vs → j ≤ length (drop i vs) → (i < length vs → Begins cs vs i) → Ends cs (drop i vs) j
+      → (k : ℕ) (d : Version) → k < j → k < length (drop i vs)
+      → matches_views cs (parts_of (get_or (drop i vs) k d)) ≡ true
+  middle low few first last k d less within = by j refl
+    where
+      found : (n : ℕ) → suc n ≡ j → k < n → matches_views cs (parts_of (get_or (drop i vs) k d)) ≡ true
+      found n e l =
+          let long = length-drop i vs in
+          let h = first (omega (arith, few, e, long, l)) in
+          let p : n < length (drop i vs) = omega (arith, few, e) in
+          subst (λ x. matches_views cs (parts_of x) ≡ true) (sym (at k d))
+          (by_three k n (omega (arith, within, long)) (omega (arith, p, long)) l h d
+          (subst (λ x. matches_views cs (parts_of x) ≡ true) (at n d) (last n d e)))
+
+      by : (n : ℕ) → n ≡ j → matches_views cs (parts_of (get_or (drop i vs) k d)) ≡ true
+      by zero e = absurd (omega (arith, e, less))
+      by (suc n) e = elim (cases_lt k n) [
+        | inl l ↦ found n e l
+        | inr m ↦ let s : n ≡ k = omega (arith, e, less, m) in
+            subst (λ x. matches_views cs (parts_of (get_or (drop i vs) x d)) ≡ true) s (last n d e)
+      ]
+
+-- so it is left out
 pub ends_are : (cs : List Held) (vs : List Version) (i j : ℕ) → AreRising vs → i ≤ length vs
-    → j ≤ length (take (length vs - i) (drop i vs))
-    → (i < length vs → (list_all is_whole cs ≡ true) × ((list_all (λ v. is_release (parts_of v)) vs ≡ true)
-    × ((d : Version) → matches_views cs (parts_of (get_or vs i d)) ≡ true)))
-    → ((n : ℕ) (d : Version) → suc n ≡ j
-    → matches_views cs (parts_of (get_or (take (length vs - i) (drop i vs)) n d)) ≡ true)
+    → j ≤ length (take (length vs - i) (drop i vs)) → (i < length vs → Begins cs vs i)
+    → Ends cs (take (length vs - i) (drop i vs)) j
     → filter (is_left cs) (map parts_of (take i vs))
     ++ filter (is_left cs) (map parts_of (take (length (take (length vs - i) (drop i vs)) - j)
     (drop j (take (length vs - i) (drop i vs)))))
@@ -457,7 +502,8 @@ ends_are cs vs i j rising = rw (take_rest vs i) (λ low few first last.
     (take_rest (drop i vs) j)
     ∙ ap₂ (λ a b. a ++ b) (sym (parts_filtered (is_left cs) (take i vs)))
     (sym (parts_filtered (is_left cs) (drop j (drop i vs)))
-    ∙ ap (map parts_of) (sym (skipped t (drop i vs) j (middle low few first last))))
+    ∙ ap (map parts_of) (sym (skipped t (drop i vs) j
+    (λ k d less within. ap not (middle cs vs i j rising low few first last k d less within)))))
     ∙ sym (map-append parts_of (filter t (take i vs)) (filter t (drop i vs)))
     ∙ ap (map parts_of) (sym (filter-append t (take i vs) (drop i vs)) ∙ ap (filter t) (take-append-drop i vs))
     ∙ parts_filtered (is_left cs) vs)
@@ -465,43 +511,54 @@ ends_are cs vs i j rising = rw (take_rest vs i) (λ low few first last.
     t : Version → Bool
     t v = is_left cs (parts_of v)
 
-    at : (k : ℕ) (d : Version) → get_or (drop i vs) k d ≡ get_or vs (i + k) d
-    at k d = get_or-drop i vs k d
+-- ---- tests of a range
 
-    middle : i ≤ length vs → j ≤ length (drop i vs)
-        → (i < length vs → (list_all is_whole cs ≡ true) × ((list_all (λ v. is_release (parts_of v)) vs ≡ true)
-        × ((d : Version) → matches_views cs (parts_of (get_or vs i d)) ≡ true)))
-        → ((n : ℕ) (d : Version) → suc n ≡ j → matches_views cs (parts_of (get_or (drop i vs) n d)) ≡ true)
-        → (k : ℕ) (d : Version) → k < j → k < length (drop i vs) → t (get_or (drop i vs) k d) ≡ false
-    middle low few first last k d less within = ap not (by j refl)
-      where
-        by : (n : ℕ) → n ≡ j → matches_views cs (parts_of (get_or (drop i vs) k d)) ≡ true
-        by zero e = absurd (omega (arith, e, less))
-        by (suc n) e = elim (cases_lt k n) [
-          | inl l ↦ found n e l
-          | inr m ↦ let s : n ≡ k = omega (arith, e, less, m) in
-              subst (λ x. matches_views cs (parts_of (get_or (drop i vs) x d)) ≡ true) s (last n d e)
-        ]
-          where
-            by_three : (k n : ℕ) → i + k < length vs → i + n < length vs → k < n
-                → (list_all is_whole cs ≡ true) × ((list_all (λ v. is_release (parts_of v)) vs ≡ true)
-                × ((d : Version) → matches_views cs (parts_of (get_or vs i d)) ≡ true))
-                → matches_views cs (parts_of (get_or vs (i + n) d)) ≡ true
-                → matches_views cs (parts_of (get_or vs (i + k) d)) ≡ true
-            by_three zero n inside p l h m = subst (λ x. matches_views cs (parts_of (get_or vs x d)) ≡ true) (omega arith)
-                (h.1.1 d)
-            by_three (suc k) n inside p l h m = between cs h.0 (parts_of (get_or vs i d))
-                (parts_of (get_or vs (i + suc k) d)) (parts_of (get_or vs (i + n) d))
-                (rising i (i + suc k) d (omega arith) inside) (rising (i + suc k) (i + n) d (omega (arith, l)) p)
-                (all_there (λ v. is_release (parts_of v)) vs h.1.0 i d (omega (arith, inside)))
-                (all_there (λ v. is_release (parts_of v)) vs h.1.0 (i + suc k) d inside)
-                (all_there (λ v. is_release (parts_of v)) vs h.1.0 (i + n) d p) (h.1.1 d) m
+module _ {X : Type 0} (p : X → Bool) where
+  same_all : (b : Bool) (xs : List X) → ((k : ℕ) (d : X) → k < length xs → p (get_or xs k d) ≡ b)
+      → map p xs ≡ replicate (length xs) b
+  same_all b [] h = refl
+  same_all b (x ∷ xs) h = ap₂ (λ c cs. c ∷ cs) (h 0 x (omega arith))
+      (same_all b xs (λ k d less. h (suc k) d (omega (arith, less))))
 
-            found : (n : ℕ) → suc n ≡ j → k < n → matches_views cs (parts_of (get_or (drop i vs) k d)) ≡ true
-            found n e l =
-                let long = length-drop i vs in
-                let h = first (omega (arith, few, e, long, l)) in
-                let p : n < length (drop i vs) = omega (arith, few, e) in
-                subst (λ x. matches_views cs (parts_of x) ≡ true) (sym (at k d))
-                (by_three k n (omega (arith, within, long)) (omega (arith, p, long)) l h
-                (subst (λ x. matches_views cs (parts_of x) ≡ true) (at n d) (last n d e)))
+  in_two : (xs : List X) (j : ℕ) → j ≤ length xs → ((k : ℕ) (d : X) → k < j → k < length xs → p (get_or xs k d) ≡ true)
+      → ((k : ℕ) (d : X) → j ≤ k → k < length xs → p (get_or xs k d) ≡ false)
+      → map p xs ≡ replicate j true ++ replicate (length xs - j) false
+  in_two xs zero few low high = same_all false xs (λ k d less. high k d (omega arith) less)
+      ∙ ap (λ n. replicate n false) (omega arith)
+  in_two [] (suc j) few low high = absurd (omega (arith, few))
+  in_two (x ∷ xs) (suc j) few low high = ap₂ (λ c cs. c ∷ cs) (low 0 x (omega arith) (omega arith))
+      (in_two xs j (omega (arith, few)) (λ k d less within. low (suc k) d (omega (arith, less)) (omega (arith, within)))
+      (λ k d more within. high (suc k) d (omega (arith, more)) (omega (arith, within)))
+      ∙ ap (λ n. replicate j true ++ replicate n false) (omega arith))
+
+  in_three : (xs : List X) (i j : ℕ) → i ≤ length xs → ((k : ℕ) (d : X) → k < i → p (get_or xs k d) ≡ false)
+      → j ≤ length (drop i xs)
+      → ((k : ℕ) (d : X) → k < j → k < length (drop i xs) → p (get_or (drop i xs) k d) ≡ true)
+      → ((k : ℕ) (d : X) → j ≤ k → k < length (drop i xs) → p (get_or (drop i xs) k d) ≡ false)
+      → map p xs ≡ tests_of_range i (i + j) (length xs)
+  in_three xs zero j low before few inside after = in_two xs j few inside after
+      ∙ ap₂ (λ a b. replicate a true ++ replicate b false) (omega arith) (omega arith)
+  in_three [] (suc i) j low before few inside after = absurd (omega (arith, low))
+  in_three (x ∷ xs) (suc i) j low before few inside after = ap₂ (λ c cs. c ∷ cs) (before 0 x (omega arith))
+      (in_three xs i j (omega (arith, low)) (λ k d less. before (suc k) d (omega (arith, less))) few inside after
+      ∙ ap₂ (λ a b. replicate i false ++ (replicate a true ++ replicate b false)) (omega arith) (omega arith))
+
+-- those that are matched are a range
+pub range_is : (cs : List Held) (vs : List Version) (i j : ℕ) → AreRising vs → i ≤ length vs
+    → ((n : ℕ) (d : Version) → n < i → matches_views cs (parts_of (get_or vs n d)) ≡ false)
+    → (i < length vs → Begins cs vs i)
+    → j ≤ length (take (length vs - i) (drop i vs))
+    → ((n : ℕ) (d : Version) → j ≤ n → n < length (take (length vs - i) (drop i vs))
+    → matches_views cs (parts_of (get_or (take (length vs - i) (drop i vs)) n d)) ≡ false)
+    → Ends cs (take (length vs - i) (drop i vs)) j
+    → (i ≤ i + j) × ((i + j ≤ length vs)
+    × (map (λ v. matches_views cs (parts_of v)) vs ≡ tests_of_range i (i + j) (length vs)))
+range_is cs vs i j rising = rw (take_rest vs i) (λ low before first few after last.
+    let long = length-drop i vs in (
+      omega arith,
+      (
+        omega (arith, low, few, long),
+        in_three (λ v. matches_views cs (parts_of v)) vs i j low before few
+            (middle cs vs i j rising low few first last) after,
+      ),
+    ))

@@ -1,16 +1,14 @@
 -- What is left out by the bounds of a requirement isn't matched.
 use Rattle.std.proofs.Common.{◌≡◌, ℕ, zero, suc, ◌-◌, ◌<◌, ◌≤◌, Bool, true, false, not, cond, ◌||◌, List, [], ◌∷◌, map}
-use Rattle.std.proofs.Common.{filter, take, drop, length, get_or, refl, sym, ap, ◌∙◌, subst, arith, true≢false}
+use Rattle.std.proofs.Common.{filter, take, drop, length, get_or, refl, sym, ap, ◌∙◌, arith, true≢false}
 use Rattle.std.specs.List.{list_any}
 use Rattle.std.specs.List.Sorted.{IsPartitionedBy, IsPartitionPoint}
-use Rattle.std.specs.declared.cmp.Ordering.TheVariants.{Less}
 use Rattle.std.proofs.lemmas.Bool.{not-true}
 use Rattle.std.proofs.lemmas.List.{take_rest}
 use Rattle.semver.specs.EvalViews.{matches_views}
 use Rattle.semver.specs.Identifiers.{parts_of}
 use Rattle.semver.specs.Parse.{Held, Parts}
 use Rattle.semver.specs.declared.Version.{Version}
-use Rattle.model.specs.Order.{precedence}
 use Rattle.model.proofs.Mapped.{any-map}
 use Rattle.catalogue.specs.inner.Bounds.{is_beyond, is_short}
 use Rattle.catalogue.proofs.Bounded.{beyond_after, not_beyond, not_short, short_before}
@@ -49,6 +47,21 @@ module _ {X : Type 0} (p : X → Bool) where
 fails : (t s : Bool) → (t ≡ true → s ≡ false) → s ≡ true → t ≡ false
 fails false s f e = refl
 fails true s f e = absurd (true≢false (sym e ∙ f refl))
+
+-- so is what stands before the place up to which all are too old, ..
+pub too_old_fails : (cs : List Held) (vs : List Version) (i : ℕ)
+    → IsPartitionPoint (λ v. is_short cs (parts_of v) ≡ true) (λ v. is_short cs (parts_of v) ≡ false) vs i
+    → (n : ℕ) (d : Version) → n < i → matches_views cs (parts_of (get_or vs n d)) ≡ false
+too_old_fails cs vs i point n d low = let v = parts_of (get_or vs n d) in
+    fails (matches_views cs v) (is_short cs v) (not_short cs v) (point.0 n d (omega arith) low)
+
+-- .. and what stands from the place on from which all are too new
+pub too_new_fails : (cs : List Held) (vs : List Version) (j : ℕ)
+    → IsPartitionPoint (λ v. not (is_beyond cs (parts_of v)) ≡ true)
+    (λ v. not (is_beyond cs (parts_of v)) ≡ false) vs j
+    → (n : ℕ) (d : Version) → j ≤ n → n < length vs → matches_views cs (parts_of (get_or vs n d)) ≡ false
+too_new_fails cs vs j point n d high within = let v = parts_of (get_or vs n d) in
+    fails (matches_views cs v) (is_beyond cs v) (not_beyond cs v) (not_false (is_beyond cs v) (point.1 n d high within))
 
 between : (cs : List Held) (vs : List Version) (i j : ℕ)
     → IsPartitionPoint (λ v. is_short cs (parts_of v) ≡ true) (λ v. is_short cs (parts_of v) ≡ false) vs i

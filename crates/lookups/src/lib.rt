@@ -4,7 +4,8 @@
 //! the loaded index. The versions of a class stand in one piece among those of a name, and are found by two searches,
 //! so that who asks about a class looks at these alone. So are the ends between which a requirement can match
 //! (`within`), and whether it matches some version is known at the first that it matches. Where a class has no
-//! pre-release, those that it doesn't match stand at the ends (`unmatched_ends`).
+//! pre-release, those that it matches stand in one piece too (`matched_range`), and the others at the ends
+//! (`unmatched_ends`).
 //!
 //! Terms whose names lie in a derivation, in the manifest or in the index are `Term` (`term.rt`), and the one cause that
 //! the terms of a step can have is read off them (`kinds.rt`).
@@ -39,7 +40,7 @@ pub use compare::same_terms;
 pub use first_enabling::enables;
 pub use kinds::cause_in;
 pub use matching::{has_class, is_lacking, is_left, is_unmatched};
-pub use narrowing::{unmatched_ends, within};
+pub use narrowing::{matched_range, unmatched_ends, within};
 pub use numbers::Numbers;
 pub use owners::{brings, dependencies_of, dependency_at, entries_of, is_needed};
 pub use problem::Problem;

@@ -3,12 +3,12 @@
 
 ghost use Rattle.std.specs.List.Sorted.{IsPartitionPoint};
 ghost use Rattle.std.specs.List.{list_all};
-ghost use Rattle.std.specs.Prelude.{◌≡◌, ◌≤◌, ◌<◌, ◌++◌, ℕ, suc, true, false, not, get_or, length, map, filter};
+ghost use Rattle.std.specs.Prelude.{◌≡◌, ◌≤◌, ◌<◌, ◌++◌, ℕ, suc, true, false, not, get_or, length, map, filter, IfSome};
 ghost use Rattle.semver.specs.EvalViews.{matches_views};
 ghost use Rattle.semver.specs.Identifiers.{comparator_view, parts_of};
 ghost use Rattle.features.specs.Views.{requirement_view};
 ghost use Rattle.catalogue.specs.inner.Bounds.{is_beyond, is_short};
-ghost use Rattle.lookups.specs.inner.Matching.{is_left, is_release, is_whole};
+ghost use Rattle.lookups.specs.inner.Matching.{is_left, is_release, is_whole, tests_of_range};
 ghost use Rattle.lookups.specs.inner.Ranges.{AreRising};
 
 use catalogue::{is_beyond, is_short};
@@ -71,13 +71,33 @@ pub fn unmatched_ends<'a>(
     (&versions[..first], &rest[up_to_last(requirement, rest)..])
 }
 
-/// How many stand before the first that is matched.
+/// Of versions that are oldest first, and all of them releases, those that are matched: from which place on, and up to
+/// which. None is told where a comparator leaves out a number before one that is there.
+pub fn matched_range(requirement: &VersionReq, versions: &[Version]) -> Option<(usize, usize)>
+    requires rising { AreRising versions.now }
+    requires releases { list_all (λ v. is_release (parts_of v)) versions.now ≡ true }
+    ensures { IfSome result (λ r. (r.0 ≤ r.1) × ((r.1 ≤ length versions.now)
+        × (map (λ v. matches_views (requirement_view requirement.now) (parts_of v)) versions.now
+        ≡ tests_of_range r.0 r.1 (length versions.now)))) }
+{
+    if !is_whole(requirement) {
+        return None;
+    }
+    let first = before_first(requirement, versions);
+    let count = up_to_last(requirement, &versions[first..]);
+    Some((first, first + count))
+}
+
+/// How many stand before the first that is matched: looked for among those alone that aren't too old.
 fn before_first(requirement: &VersionReq, versions: &[Version]) -> usize
+    requires { AreRising versions.now }
     ensures few { result ≤ length versions.now }
+    ensures before { (n : ℕ) (v : Version) → n < result
+        → matches_views (requirement_view requirement.now) (parts_of (get_or versions.now n v)) ≡ false }
     ensures first { result < length versions.now → (v : Version)
         → matches_views (requirement_view requirement.now) (parts_of (get_or versions.now result v)) ≡ true }
 {
-    let mut count = 0;
+    let mut count = too_old(requirement, versions);
     'versions: while count < versions.len() {
         if is_matched(requirement, &versions[count]) {
             return count;
@@ -87,13 +107,16 @@ fn before_first(requirement: &VersionReq, versions: &[Version]) -> usize
     count
 }
 
-/// How many stand up to the last that is matched.
+/// How many stand up to the last that is matched: looked for among those alone that aren't too new.
 fn up_to_last(requirement: &VersionReq, versions: &[Version]) -> usize
+    requires { AreRising versions.now }
     ensures few { result ≤ length versions.now }
+    ensures after { (n : ℕ) (v : Version) → result ≤ n → n < length versions.now
+        → matches_views (requirement_view requirement.now) (parts_of (get_or versions.now n v)) ≡ false }
     ensures last { (n : ℕ) (v : Version) → suc n ≡ result
         → matches_views (requirement_view requirement.now) (parts_of (get_or versions.now n v)) ≡ true }
 {
-    let mut count = versions.len();
+    let mut count = old_enough(requirement, versions);
     'versions: while count > 0 {
         if is_matched(requirement, &versions[count - 1]) {
             return count;

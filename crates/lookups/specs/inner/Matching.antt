@@ -1,5 +1,5 @@
 -- Tests of the versions of a class by a requirement and by a feature.
-use Rattle.std.specs.Prelude.{ℕ, ◌==◌, List, Bool, true, false, not, length, Option, Some, None}
+use Rattle.std.specs.Prelude.{ℕ, ◌==◌, ◌-◌, ◌++◌, List, Bool, true, false, not, length, replicate, Option, Some, None}
 use Rattle.semver.specs.Parse.{Parts, Held}
 use Rattle.semver.specs.EvalViews.{matches_views}
 use Rattle.model.specs.Summary.{has_feature}
@@ -26,3 +26,7 @@ is_whole_with None (Some p) = false
 -- no number is left out before one that is there
 abbrev pub is_whole : Held → Bool
 is_whole c = is_whole_with c.2 c.3
+
+-- of n places those from one on and up to another pass
+abbrev pub tests_of_range : ℕ → ℕ → ℕ → List Bool
+tests_of_range from to n = replicate from false ++ (replicate (to - from) true ++ replicate (n - to) false)
