@@ -27,3 +27,4 @@ pub mod Adds
 pub mod Requirements
 pub mod Keeping
 pub mod Alone
+pub mod RangeLaws

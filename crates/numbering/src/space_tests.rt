@@ -1,7 +1,8 @@
 //! Sets of a vertex's states, as tests of its space: absent first, then the versions or classes in their order.
 
-ghost use Rattle.std.specs.Prelude.{◌≡◌, ◌∷◌, ◌+◌, ◌<◌, ◌≤◌, ◌^◌, true, false, if◌then◌else◌, length, not, map, IfOk};
-ghost use Rattle.std.specs.List.{AllPairs};
+ghost use Rattle.std.specs.Prelude.{◌≡◌, ◌∷◌, ◌++◌, ◌+◌, ◌-◌, ◌<◌, ◌≤◌, ◌^◌, true, false, if◌then◌else◌, length, not, map};
+ghost use Rattle.std.specs.Prelude.{replicate, IfOk, IfSome, OnOk};
+ghost use Rattle.std.specs.List.{AllPairs, list_all};
 ghost use Rattle.std.specs.List.Sorted.{IsPartitionPoint};
 ghost use Rattle.std.specs.Ordering.{is_lt};
 ghost use Rattle.semver.specs.Identifiers.{parts_of};
@@ -12,7 +13,7 @@ ghost use Rattle.model.specs.Axioms.{is_lower};
 ghost use Rattle.model.specs.Order.{precedence};
 ghost use Rattle.model.specs.Summary.{has_feature};
 ghost use Rattle.numbering.specs.inner.TestedTerms.{is_chosen, is_class, states_view};
-ghost use Rattle.lookups.specs.inner.Matching.{is_left};
+ghost use Rattle.lookups.specs.inner.Matching.{is_left, is_release, tests_of_range};
 ghost use Rattle.lookups.specs.inner.Ranges.{AreRising};
 ghost use Rattle.semver.specs.EvalViews.{matches_views};
 ghost use Rattle.version_sets.specs.Sets.{has, none, only};
@@ -20,7 +21,7 @@ ghost use Rattle.version_sets.specs.Sets.{has, none, only};
 use catalogue::Candidate;
 use classes::{Class, is_matched};
 use features::FeatureName;
-use lookups::is_left;
+use lookups::{is_left, matched_range};
 use semver::{Version, VersionReq};
 use std::alloc::{AllocError, Global};
 
@@ -54,6 +55,97 @@ pub(crate) fn left_tests(
     requirement: &VersionReq,
     versions: &[Version],
 ) -> Result<Vec<bool>, AllocError>
+    requires { AreRising versions.now }
+    ensures { IfOk result
+        (λ v. v.items ≡ true ∷ map (λ w. is_left (requirement_view requirement.now) (parts_of w)) versions.now) }
+{
+    match range_among(requirement, versions) {
+        Some((from, to)) => range_tests(alloc, false, from, to, versions.len()),
+        None => each_left(alloc, requirement, versions),
+    }
+}
+
+/// The versions that are matched.
+pub(crate) fn taken_tests(
+    alloc: Global,
+    requirement: &VersionReq,
+    versions: &[Version],
+) -> Result<Vec<bool>, AllocError>
+    requires { AreRising versions.now }
+    ensures { IfOk result
+        (λ v. v.items ≡ false ∷ map (λ w. matches_views (requirement_view requirement.now) (parts_of w)) versions.now) }
+{
+    match range_among(requirement, versions) {
+        Some((from, to)) => range_tests(alloc, true, from, to, versions.len()),
+        None => each_taken(alloc, requirement, versions),
+    }
+}
+
+/// From which place on and up to which versions are matched, if it is known that these are all: so it is where no version
+/// is a pre-release. A class may have thousands of versions and be asked about by as many requirements.
+fn range_among(requirement: &VersionReq, versions: &[Version]) -> Option<(usize, usize)>
+    requires { AreRising versions.now }
+    ensures { IfSome result (λ r. (r.0 ≤ r.1) × ((r.1 ≤ length versions.now)
+        × (map (λ w. matches_views (requirement_view requirement.now) (parts_of w)) versions.now
+        ≡ tests_of_range r.0 r.1 (length versions.now)))) }
+{
+    if are_releases(versions) {
+        matched_range(requirement, versions)
+    } else {
+        None
+    }
+}
+
+fn are_releases(versions: &[Version]) -> bool
+    ensures { result ≡ list_all (λ v. is_release (parts_of v)) versions.now }
+{
+    versions.iter().all(|version| is_release(version))
+}
+
+fn is_release(version: &Version) -> bool
+    ensures { result ≡ is_release (parts_of version.now) }
+{
+    version.pre.is_empty()
+}
+
+/// Of a state before so many places, and these: whether each lies from one place on and up to another, or whether it
+/// doesn't.
+fn range_tests(
+    alloc: Global,
+    inside: bool,
+    from: usize,
+    to: usize,
+    count: usize,
+) -> Result<Vec<bool>, AllocError>
+    requires begins { from ≤ to }
+    requires ends { to ≤ count }
+    ensures { IfOk result (λ v. v.items
+        ≡ not inside ∷ (replicate from (not inside)
+        ++ (replicate (to - from) inside ++ replicate (count - to) (not inside)))) }
+{
+    let mut tests = Vec::with_capacity(alloc, count.saturating_add(1))?;
+    tests.push(!inside)?;
+    push_same(&mut tests, from, !inside)?;
+    push_same(&mut tests, to - from, inside)?;
+    push_same(&mut tests, count - to, !inside)?;
+    Ok(tests)
+}
+
+/// Adds one test so many times.
+fn push_same(tests: &mut Vec<bool>, count: usize, test: bool) -> Result<(), AllocError>
+    ensures { OnOk result (tests.new.items ≡ tests.old.items ++ replicate count test) }
+{
+    'places: for _ in 0..count {
+        tests.push(test)?;
+    }
+    Ok(())
+}
+
+fn each_left(
+    alloc: Global,
+    requirement: &VersionReq,
+    versions: &[Version],
+) -> Result<Vec<bool>, AllocError>
     ensures { IfOk result
         (λ v. v.items ≡ true ∷ map (λ w. is_left (requirement_view requirement.now) (parts_of w)) versions.now) }
 {
@@ -65,8 +157,7 @@ pub(crate) fn left_tests(
     Ok(tests)
 }
 
-/// The versions that are matched.
-pub(crate) fn taken_tests(
+fn each_taken(
     alloc: Global,
     requirement: &VersionReq,
     versions: &[Version],
