@@ -10,3 +10,4 @@ pub mod Places
 pub mod Kept
 pub mod ByNames
 pub mod Convex
+pub mod Hops

@@ -61,7 +61,7 @@ apart_below k c l = by (same_class k c) refl
     by false e = refl
     by true e = absurd (not_lower_itself c (ap (is_lower c) (sym (class-same k c e)) ∙ l))
 
-apart_above : (k c : Class) → is_lower k c ≡ true → same_class k c ≡ false
+pub apart_above : (k c : Class) → is_lower k c ≡ true → same_class k c ≡ false
 apart_above k c l = by (same_class k c) refl
   where
     by : (b : Bool) → same_class k c ≡ b → b ≡ false

@@ -3,19 +3,20 @@
 //! An owner is the root or a version of a package: what the one brings stands in the manifest, what the other brings in
 //! the loaded index. The versions of a class stand in one piece among those of a name, and are found by two searches,
 //! so that who asks about a class looks at these alone. So are the ends between which a requirement can match
-//! (`within`), and whether it matches some version is known at the first that it matches. Where a class has no
-//! pre-release, those that it matches stand in one piece too (`matched_range`), and the others at the ends
-//! (`unmatched_ends`).
+//! (`within`), and whether it matches some version is known at the first that it matches; so are the classes in which
+//! it matches one (`classes_matched`). Where a class has no pre-release, those that it matches stand in one piece too
+//! (`matched_range`), and the others at the ends (`unmatched_ends`).
 //!
 //! Terms whose names lie in a derivation, in the manifest or in the index are `Term` (`term.rt`), and the one cause that
 //! the terms of a step can have is read off them (`kinds.rt`).
 //!
 //! A layer above may rely on this: each look-up gives exactly what the model says (`owner_brings` and the like),
-//! borrowed from the manifest or the index, and takes no memory; an owner that is no candidate brings nothing. If terms
-//! are those of an instance of the kind at all, it is that of the cause found.
+//! borrowed from the manifest or the index, and takes no memory but for a list of classes; an owner that is no candidate
+//! brings nothing. If terms are those of an instance of the kind at all, it is that of the cause found.
 #![tactic(auto)]
 
 mod cause;
+mod classes_in;
 mod compare;
 mod feature_on_dependency;
 mod first_enabled;
@@ -36,6 +37,7 @@ mod term;
 mod wants_feature;
 
 pub use cause::Cause;
+pub use classes_in::classes_matched;
 pub use compare::same_terms;
 pub use first_enabling::enables;
 pub use kinds::cause_in;

@@ -1,9 +1,6 @@
 -- The states of vertices but `absent`.
 use Rattle.std.specs.Prelude.{List, [], ◌∷◌, Bool, not, ◌||◌, Option, Some, None, map}
-use Rattle.std.specs.List.{list_all}
-use Rattle.semver.specs.Identifiers.{parts_of}
 use Rattle.semver.specs.Parse.{Parts, Held}
-use Rattle.semver.specs.declared.Version.{Version}
 use Rattle.semver.specs.EvalViews.{matches_views}
 use Rattle.model.specs.Summary.{Dependency}
 use Rattle.model.specs.Content.{Problem}
@@ -27,7 +24,3 @@ others q (ask name v i g) = present ∷ []
 -- the class of a version that is matched is among the states
 unfoldable pub has_if_matched : List State → List Held → Parts → Bool
 has_if_matched ss req v = not (matches_views req v) || has_state ss (in_class (class_of v))
-
--- of each version
-abbrev pub all_if_matched : List State → List Held → List Version → Bool
-all_if_matched ss req vs = list_all (λ v. has_if_matched ss req (parts_of v)) vs

@@ -9,5 +9,8 @@ returns c =
     let vs = c.args.versions.now in
     range_is cs vs c.before_first-first.result c.up_to_last-count.result c.requires.rising
     c.before_first-first.ensures.few c.before_first-first.ensures.before
-    (λ l. (sym c.is_whole.ensures ∙ c.if-not-is_whole.false, (c.requires.releases, c.before_first-first.ensures.first l)))
+    (λ l. (
+      sym c.is_whole.ensures ∙ c.if-not-is_whole.false,
+      (c.requires.releases, c.before_first-first.ensures.first l),
+    ))
     c.up_to_last-count.ensures.few c.up_to_last-count.ensures.after c.up_to_last-count.ensures.last

@@ -1,21 +1,19 @@
-use Rattle.std.proofs.Common.{◌≡◌, ◌∙◌, ◌&&◌, filter, sym, ap, subst}
+use Rattle.std.proofs.Common.{◌≡◌, ◌∙◌, ◌++◌, ◌∷◌, filter, map, sym, ap, subst}
 use Rattle.std.specs.declared.cmp.Ordering.TheVariants.{Less}
 use Rattle.std.proofs.lemmas.List.Kept.{AllPairs-filter}
 use Rattle.semver.specs.Eval.{precedence_cmp}
 use Rattle.semver.specs.Identifiers.{parts_of}
 use Rattle.classes.specs.Classes.{class_view}
 use Rattle.features.specs.Views.{requirement_view}
-use Rattle.model.specs.Vertices.{has_state, in_class}
 use Rattle.lookups.specs.inner.Ranges.{AreRising, is_above}
-use Rattle.instances.specs.inner.FullTerms.{all_if_matched}
-use Rattle.instances.specs.inner.Keeping.{all_classes}
-use Rattle.instances.proofs.Classes.{fewer, later_rise, later_than_first, one_more, passed, taken}
-use Rattle.instances.proofs.matched_classes.add_matched.Goals as goal
+use Rattle.lookups.proofs.Hops.{fewer, found, later_rise, later_than_first, onto, passed, taken}
+use Rattle.lookups.proofs.classes_in.add_matched.Goals as goal
 
 pub returns-then-not-is_matched-clause-classes : goal.returns-then-not-is_matched-clause-classes
-returns-then-not-is_matched-clause-classes c ss =
-    passed ss (requirement_view c.args.requirement.now) c.args.versions.now c.requires.some c.index-versions-0.result
-    c.index-versions-0.is (sym c.is_matched.ensures ∙ c.if-not-is_matched.true) (all_classes ss c.args.classes.now.items)
+returns-then-not-is_matched-clause-classes c =
+    ap (λ ks. map class_view c.args.classes.now.items ++ ks)
+    (passed (requirement_view c.args.requirement.now) c.args.versions.now c.requires.some c.index-versions-0.result
+    c.index-versions-0.is (sym c.is_matched.ensures ∙ c.if-not-is_matched.true))
 
 pub returns-then-not-is_matched-clause-rising : goal.returns-then-not-is_matched-clause-rising
 returns-then-not-is_matched-clause-rising c = later_rise c.args.versions.now c.requires.rising
@@ -34,16 +32,16 @@ returns-clause-fewer c = rw c.above.ensures (fewer (λ v. is_above (class_view c
     c.args.versions.now c.requires.some)
 
 pub returns-clause-classes : goal.returns-clause-classes
-returns-clause-classes c ss =
+returns-clause-classes c =
     let cs = requirement_view c.args.requirement.now in
-    let so_far = all_classes ss c.args.classes.now.items in
+    let so_far = map class_view c.args.classes.now.items in
     let ls = later_than_first c.args.versions.now in
-    ap (λ vs. all_classes ss c.push.new.self.items && all_if_matched ss cs vs) c.above.ensures
-    ∙ ap (λ ks. all_classes ss ks && all_if_matched ss cs
+    ap (λ vs. map class_view c.push.new.self.items ++ found cs vs) c.above.ensures
+    ∙ ap (λ ks. map class_view ks ++ found cs
     (filter (λ v. is_above (class_view c.of-class.result) (parts_of v)) ls)) c.in_ok-push.ensures.items
-    ∙ ap (λ b. b && all_if_matched ss cs (filter (λ v. is_above (class_view c.of-class.result) (parts_of v)) ls))
-    (one_more (λ k. has_state ss (in_class (class_view k))) c.args.classes.now.items c.of-class.result)
-    ∙ ap (λ k. (so_far && has_state ss (in_class k))
-    && all_if_matched ss cs (filter (λ v. is_above k (parts_of v)) ls)) c.of-class.ensures
-    ∙ taken ss cs c.args.versions.now c.requires.some c.index-versions-0.result c.index-versions-0.is c.requires.rising
-    (sym c.is_matched.ensures ∙ c.if-not-is_matched.false) so_far
+    ∙ onto class_view c.args.classes.now.items c.of-class.result
+    (found cs (filter (λ v. is_above (class_view c.of-class.result) (parts_of v)) ls))
+    ∙ ap (λ k. so_far ++ k ∷ found cs (filter (λ v. is_above k (parts_of v)) ls)) c.of-class.ensures
+    ∙ ap (λ ks. so_far ++ ks)
+    (taken cs c.args.versions.now c.requires.some c.index-versions-0.result c.index-versions-0.is c.requires.rising
+    (sym c.is_matched.ensures ∙ c.if-not-is_matched.false))
