@@ -18,9 +18,9 @@ use crate::called::Numbered;
 use crate::indexed::Indexed;
 use crate::table::Table;
 use catalogue::{Catalogue, catalogues_are_well_formed};
-use classes::{Class, matching};
+use classes::Class;
 use features::{Dependency, DependencyParts, PackageName};
-use lookups::{Problem, class_versions, dependencies_of, within};
+use lookups::{Problem, class_versions, classes_matched, dependencies_of};
 use manifest::Manifest;
 use semver::VersionReq;
 use std::alloc::{AllocError, Global};
@@ -281,20 +281,7 @@ pub(crate) fn match_anew(
         (λ ks. map class_view ks.items ≡ dep_classes (problem_view problem.now) (dependency_view dependency.now)) }
 {
     catalogues_are_well_formed(problem.manifest, problem.catalogue);
-    let versions = within(
-        &dependency.requirement,
-        problem.catalogue.versions(&dependency.real_name),
-    );
-    let groups = matching(alloc, &dependency.requirement, versions)?;
-    firsts(alloc, groups.as_slice())
-}
-
-fn firsts(alloc: Global, groups: &[(Class, Vec<u32>)]) -> Result<Vec<Class>, AllocError>
-    ensures { IfOk result (λ ks. map class_view ks.items ≡ map (λ g. class_view g.0) groups.now) }
-{
-    let mut classes = Vec::new(alloc);
-    'groups: for group in groups.iter() {
-        classes.push(group.0)?;
-    }
-    Ok(classes)
+    let requirement: &VersionReq = &dependency.requirement;
+    let versions = problem.catalogue.versions(&dependency.real_name);
+    classes_matched(alloc, requirement, versions)
 }

@@ -1,7 +1,7 @@
 //! Sets of a vertex's states, as tests of its space: absent first, then the versions or classes in their order.
 
-ghost use Rattle.std.specs.Prelude.{◌≡◌, ◌∷◌, ◌++◌, ◌+◌, ◌-◌, ◌<◌, ◌≤◌, ◌^◌, true, false, if◌then◌else◌, length, not, map};
-ghost use Rattle.std.specs.Prelude.{replicate, IfOk, IfSome, OnOk};
+ghost use Rattle.std.specs.Prelude.{◌≡◌, ◌∷◌, ◌++◌, ◌+◌, ◌-◌, ◌<◌, ◌≤◌, ◌^◌, true, false, if◌then◌else◌, length, not};
+ghost use Rattle.std.specs.Prelude.{map, replicate, IfOk, IfSome, OnOk};
 ghost use Rattle.std.specs.List.{AllPairs, list_all};
 ghost use Rattle.std.specs.List.Sorted.{IsPartitionPoint};
 ghost use Rattle.std.specs.Ordering.{is_lt};
@@ -81,8 +81,9 @@ pub(crate) fn taken_tests(
     }
 }
 
-/// From which place on and up to which versions are matched, if it is known that these are all: so it is where no version
-/// is a pre-release. A class may have thousands of versions and be asked about by as many requirements.
+/// From which place on and up to which versions are matched, where these are all that are: where no version is a
+/// pre-release. A class may have thousands of versions and be asked about by as many requirements, so to match each of
+/// them would be slow.
 fn range_among(requirement: &VersionReq, versions: &[Version]) -> Option<(usize, usize)>
     requires { AreRising versions.now }
     ensures { IfSome result (λ r. (r.0 ≤ r.1) × ((r.1 ≤ length versions.now)
