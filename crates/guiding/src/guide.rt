@@ -373,6 +373,8 @@ impl<'a, S: States + Drop> Guide<S> for Encoded<'a, S> {
                 self.next = self.order.next(trail, self.asked.len())?;
                 self.preferences
                     .keep(self.alloc, &self.known, &self.table, self.next)?;
+                self.preferences
+                    .pass_over(trail, self.asked.len(), self.next);
                 let lead = self.leads.next(&self.asked);
                 match self.ahead(trail, lead)? {
                     Some((vertex, state)) => {

@@ -1,6 +1,7 @@
 //! Which of the states that are left to a vertex is preferred: that of the most preferred candidate.
 
-ghost use Rattle.std.specs.Prelude.{◌≡◌, ◌<◌, IfSome, true};
+ghost use Rattle.propagation.specs.Trails.{trail_view};
+ghost use Rattle.std.specs.Prelude.{◌≡◌, ◌<◌, IfSome, length, true};
 ghost use Rattle.version_sets.specs.Sets.{has, size};
 
 use crate::choosing::greatest;
@@ -8,6 +9,7 @@ use classes::Class;
 use features::PackageName;
 use lookups::{below, of_class};
 use numbering::{KnownProblem, Table, classes_of, dependency_at};
+use propagation::Trail;
 use std::alloc::{AllocError, Global};
 use std::collections::HashMap;
 use version_sets::States;
@@ -18,14 +20,22 @@ use vertices::{OwnerRef, VertexRef};
 /// To find them anew for each decision takes up to a third of a search over packages with many classes.
 #[derive(Drop)]
 pub(crate) struct Preferences {
-    states: HashMap<usize, Vec<u32>>,
+    ranked: HashMap<usize, Ranked>,
+}
+
+/// States with the most preferred first.
+#[derive(Drop)]
+struct Ranked {
+    states: Vec<u32>,
+    /// Those before this place are gone for good: to go over them each time takes the square of how many there are.
+    from: usize,
 }
 
 impl Preferences {
     /// Nothing is kept yet.
     pub(crate) fn new(alloc: Global) -> Preferences {
         Preferences {
-            states: HashMap::new(alloc),
+            ranked: HashMap::new(alloc),
         }
     }
 
@@ -40,15 +50,36 @@ impl Preferences {
         let Some(number) = number else {
             return Ok(());
         };
-        if self.states.contains_key(&number) {
+        if self.ranked.contains_key(&number) {
             return Ok(());
         }
         let Some(vertex) = table.vertex(number) else {
             return Ok(());
         };
         let states = by_preference(alloc, known, &vertex)?;
-        self.states.insert(number, states)?;
+        self.ranked.insert(number, Ranked { states, from: 0 })?;
         Ok(())
+    }
+
+    /// At level 0, where nothing comes back, passes over the first states of the vertex with this number that are gone.
+    pub(crate) fn pass_over<S: States + Drop>(
+        &mut self,
+        trail: &Trail<S>,
+        vertices: usize,
+        number: Option<usize>,
+    )
+        requires { vertices ≡ length (trail_view S.tests trail.now).sets }
+    {
+        let Some(number) = number else {
+            return;
+        };
+        if trail.level() > 0 || number >= vertices {
+            return;
+        }
+        let left = trail.states(number);
+        if let Some(ranked) = self.ranked.get_mut(&number) {
+            ranked.from = first_place(ranked.states.as_slice(), ranked.from, left);
+        }
     }
 
     /// Of the states that are left to a vertex the most preferred one, if its order is kept, else the greatest.
@@ -65,23 +96,33 @@ impl Preferences {
     fn first_left<S: States>(&self, number: usize, left: &S) -> Option<u32>
         ensures { IfSome result (λ n. has (S.tests left.now) n ≡ true) }
     {
-        match self.states.get(&number) {
-            Some(states) => first_of(states.as_slice(), left),
+        match self.ranked.get(&number) {
+            Some(ranked) => first_of(ranked.states.as_slice(), ranked.from, left),
             None => None,
         }
     }
 }
 
-/// The first of these states that is left.
-fn first_of<S: States>(states: &[u32], left: &S) -> Option<u32>
+/// The first of these states from a place on that is left.
+fn first_of<S: States>(states: &[u32], from: usize, left: &S) -> Option<u32>
     ensures { IfSome result (λ n. has (S.tests left.now) n ≡ true) }
 {
-    'states: for state in states.iter() {
-        if left.member(*state) {
-            return Some(*state);
+    'places: for place in from..states.len() {
+        if left.member(states[place]) {
+            return Some(states[place]);
         }
     }
     None
+}
+
+/// Where the first of these states from a place on stands that is left.
+fn first_place<S: States>(states: &[u32], from: usize, left: &S) -> usize {
+    'places: for place in from..states.len() {
+        if left.member(states[place]) {
+            return place;
+        }
+    }
+    states.len()
 }
 
 /// The states of a package or a dependency, the most preferred first: none of other vertices.
