@@ -7,8 +7,8 @@ mod counting;
 mod loading;
 mod telling;
 
-use loading::read_input;
-use solver::solve;
+use loading::{Input, read_input};
+use solver::{Solved, solve};
 use std::io;
 use telling::{tell_axioms, tell_followed, tell_learned, tell_lock, tell_refused};
 
@@ -48,13 +48,22 @@ fn main(rt: HostRuntime) -> io::Result<()> {
 /// Solves the problem of this name, and tells what it shows.
 fn tell(rt: &HostRuntime, name: &str, shown: Shown) -> io::Result<()> {
     let input = read_input(rt, name)?;
-    let solved = solve(rt.alloc(), &input.manifest, &input.catalogue)?;
     print!(rt; "{name}: ")?;
+    solve_and_tell(rt, &input, shown)
+}
+
+fn solve_and_tell(rt: &HostRuntime, input: &Input, shown: Shown) -> io::Result<()> {
+    let solved = solve(rt.alloc(), &input.manifest, &input.catalogue)?;
+    tell_solved(rt, input, &solved, shown)
+}
+
+// What is large is owned where little can end, as a check goes through it at each end.
+fn tell_solved(rt: &HostRuntime, input: &Input, solved: &Solved, shown: Shown) -> io::Result<()> {
     match shown {
-        Shown::Axioms => tell_axioms(rt, &input, &solved),
-        Shown::Followed => tell_followed(rt, &input, &solved),
-        Shown::Learned => tell_learned(rt, &solved),
-        Shown::Refused => tell_refused(rt, &input, &solved),
-        Shown::Lock => tell_lock(rt, &input, &solved),
+        Shown::Axioms => tell_axioms(rt, input, solved),
+        Shown::Followed => tell_followed(rt, input, solved),
+        Shown::Learned => tell_learned(rt, solved),
+        Shown::Refused => tell_refused(rt, input, solved),
+        Shown::Lock => tell_lock(rt, input, solved),
     }
 }
