@@ -1,7 +1,7 @@
 -- A guide that asks for a pair does what the search wants of it.
 use Rattle.std.proofs.Common.{◌≡◌, ℕ, zero, suc, ◌+◌, ◌-◌, ◌<◌, ◌≤◌, ◌==◌, ◌||◌, Bool, true, false, List, [], ◌∷◌, ◌++◌}
 use Rattle.std.proofs.Common.{length, map, append_assoc, Contains, Option, Some, None, slice_get, refl, sym, ap}
-use Rattle.std.proofs.Common.{ap₂, ◌∙◌, subst, inl, inr, arith}
+use Rattle.std.proofs.Common.{ap₂, ◌∙◌, subst, ◌⊎◌, inl, inr, arith}
 use Rattle.std.specs.Prelude.{if◌then◌else◌, option_map}
 use Rattle.std.proofs.lemmas.Bool.{cases_lt, false≢true, ne_eqb}
 use Rattle.std.proofs.lemmas.List.{get_or_append_left, get_or-append_right, length-append, length-map}
@@ -19,24 +19,25 @@ use Rattle.model.specs.Content.{Problem}
 use Rattle.model.specs.Axioms.{Term}
 use Rattle.model.specs.Derivation.{states_at}
 use Rattle.model.specs.Vertices.{State, Vertex, space}
-use Rattle.refutations.specs.Causes.{Cause, kind_of, terms_of_cause}
+use Rattle.refutations.specs.Causes.{Cause, is_cause, kind_of, of_root, terms_of_cause}
 use Rattle.refutations.proofs.CauseLaws.{cause_instance}
 use Rattle.numbering.specs.inner.Assignments.{state_at}
 use Rattle.numbering.specs.Numberings.{Numbering, Says, members_at}
-use Rattle.numbering.specs.Pairs.{AreGiven, AreOfPair, Given, IsGivenAt, Pair}
+use Rattle.numbering.specs.Pairs.{AreGiven, AreOfPair, Given, IsGivenAt, Pair, pairs_of}
 use Rattle.numbering.proofs.Needing.{still_at}
+use Rattle.numbering.proofs.Overtaken.{first_named}
 use Rattle.model.proofs.Lists.{in_cons, in_none, in_first, in_rest}
 use Rattle.guiding.specs.inner.Searching.{AreMore, HasSpaces, IsOfNew, IsSeen}
 use Rattle.guiding.specs.inner.Turning.{IsAdding}
 use Rattle.guiding.specs.inner.Following as following
 use Rattle.guiding.proofs.Guides.{lone_one, spaces_wider}
 use Rattle.guiding.proofs.Seen.{seen_wider}
-use Rattle.guiding.specs.inner.Guides.{AreAll, AreFirst, AreStored, CanAsk, EncodedView, GoesOn, IsAsking, IsOfInstance}
+use Rattle.guiding.specs.inner.Guides.{AreAll, AreFirst, AreStored, CanAsk, EncodedView, GoesOn, IsAskedFor, IsAsking, IsOfInstance}
 use Rattle.guiding.specs.inner.Guides.{IsPut, as_entry}
 use Rattle.guiding.specs.inner.Guides.{asked_at, asked_of, on_trail, late_with, left_with, with_given}
 use Rattle.vertices.specs.Kinds.{kind_number}
 use Rattle.guiding.specs.inner.Remaining.{open_of, spaces_of}
-use Rattle.guiding.proofs.FirstTerms.{first_only}
+use Rattle.guiding.proofs.FirstTerms.{named_only}
 use Rattle.guiding.specs.inner.Going.{added_grown, added_on, says_on}
 use Rattle.guiding.proofs.Marks.{lengths_at, marked_either, marked_lengths, marked_more, marked_now}
 use Rattle.guiding.proofs.Marks.{wide_either, wide_has, wide_lengths}
@@ -117,15 +118,31 @@ said_long q vs asked wide spaces whole spaced x ts says u z e = by (slice_get vs
         long ∙ ap (λ w. length (space q w)) (sym same) ∙ sym r.2 ∙ sym (lengths_at asked u) ∙ sym (spaced.each u)
 
 pub of_all : (q : Problem) (vs : Numbering) (p : Pair) (xs : List Given) → IsGivenAt q vs p xs → AreOfPair q vs p xs
-of_all q vs p xs is = record { causes = is.causes; are = λ c h. (is.are.listed c).0 h; given = is.given }
+of_all q vs p xs is = record {
+  causes = is.causes;
+  are = λ c h. let r = (is.are.listed c).0 h in (r.0, subst (Contains (pairs_of c)) r.1 (first_named c));
+  given = is.given;
+}
 
 -- whichever instances come, they are of the pair
 pub given_how : {v i : ℕ} {old new : EncodedView} {t wide : TrailView} {es more : List EntryView}
     (a : IsAsking v i old new t wide es more) (w : Vertex) → slice_get old.vertices v ≡ Some w
     → AreOfPair old.problem new.vertices (w, state_at old.problem w i) a.given
 given_how {i = i} {old = old} {new = new} a w at = elim a.how [
-  | inl all ↦ of_all old.problem new.vertices (w, state_at old.problem w i) a.given (all.is w at)
+  | inl all ↦ let is = all.is w at in record { causes = is.causes; are = is.there; given = is.given }
   | inr first ↦ first.is w at
+]
+
+-- one of several is this one, or another thing holds of all
+pub one_or_all : {X : Type 0} (x : X) (P : X → Type 0) (ys : List X)
+    → ((y : X) → Contains ys y → (y ≡ x) ⊎ P y) → Contains ys x ⊎ ((y : X) → Contains ys y → P y)
+one_or_all x P [] each = inr (λ y h. absurd (in_none y h))
+one_or_all x P (z ∷ ys) each = elim (each z (in_first z ys)) [
+  | inl e ↦ inl (subst (Contains (z ∷ ys)) e (in_first z ys))
+  | inr p ↦ elim (one_or_all x P ys (λ y h. each y (in_rest z y ys h))) [
+    | inl there ↦ inl (in_rest z x ys there)
+    | inr all ↦ inr (λ y h. elim (in_cons z y ys h) [ inl e ↦ subst P e p | inr d ↦ all y d ])
+  ]
 ]
 
 -- what comes where a pair is asked for, or begun with, that may be
@@ -214,7 +231,7 @@ module _ {v i : ℕ} {old new : EncodedView} {t wide : TrailView} {es more : Lis
   new_one k within =
       let g = given_at old.problem new.vertices is_given.causes a.given k is_given.given within in
       let is = is_given.are g.cause g.listed in
-      let first = first_only old.problem new.vertices
+      let first = named_only old.problem new.vertices
       (entry (map as_entry a.given) k).terms g.cause v i at_v.0 a.catalogue is.0 g.says now_at some fits is.1 in
       record {
         vertex = v;
@@ -343,24 +360,34 @@ module _ {v i : ℕ} {old new : EncodedView} {t wide : TrailView} {es more : Lis
             })
       ])
 
-  -- each instance of an earlier pair stays
-  kept : AreStored old.problem old.vertices old.asked es → (n j : ℕ) (w : Vertex) → n < length old.asked
-      → has (set_of old.asked n) j ≡ true → slice_get new.vertices n ≡ Some w
-      → IsPut old.problem new.vertices (es ++ map as_entry a.given) (w, state_at old.problem w j)
-  kept was n j w low h at =
+  -- what was asked for before
+  was_asked : (p : Pair) (n j : ℕ) → n < length old.asked → has (set_of old.asked n) j ≡ true
+      → slice_get new.vertices n ≡ Some p.0 → state_at old.problem p.0 j ≡ p.1
+      → IsAskedFor old.problem old.vertices old.asked p
+  was_asked p n j low h at is =
       let o = on_trail_at old.problem old.vertices old.asked n a.spaces low in
-      let same : o.0 ≡ w = same_Some o.0 w (sym (still_at old.vertices new.vertices n o.0 a.grown o.1) ∙ at) in
-      subst (λ x. IsPut old.problem new.vertices (es ++ map as_entry a.given) (x, state_at old.problem x j)) same
-      (added_on old.problem new.vertices es (map as_entry a.given) _ (added_grown old.problem old.vertices
-      new.vertices es _ a.grown a.numbering (was.pairs n j o.0 h o.1)))
+      let same : o.0 ≡ p.0 = same_Some o.0 p.0 (sym (still_at old.vertices new.vertices n o.0 a.grown o.1) ∙ at) in
+      (n, j, o.1 ∙ ap Some same, h, is)
 
-  -- and those of the pair that is asked for come
-  here : AreAll v i old new a.came a.given
-      → IsPut old.problem new.vertices (es ++ map as_entry a.given) (at_v.0, state_at old.problem at_v.0 i)
-  here all c is first =
+  -- each instance of earlier pairs stays
+  kept : AreStored old.problem old.vertices old.asked es → (c : Cause) → is_cause old.problem c ≡ true
+      → ((p : Pair) → Contains (pairs_of c) p → IsAskedFor old.problem old.vertices old.asked p)
+      → IsPut old.problem new.vertices (es ++ map as_entry a.given) c
+  kept was c t all = added_on old.problem new.vertices es (map as_entry a.given) c
+      (added_grown old.problem old.vertices new.vertices es c a.grown a.numbering (was.pairs c t all))
+
+  -- and those that wait for no other pair than the one that is asked for come
+  abbrev now_asked : Pair
+  now_asked = (at_v.0, state_at old.problem at_v.0 i)
+
+  here : AreAll v i old new a.came a.given → (c : Cause) → is_cause old.problem c ≡ true
+      → Contains (pairs_of c) now_asked
+      → ((p : Pair) → Contains (pairs_of c) p
+      → (p ≡ now_asked) ⊎ IsAskedFor old.problem old.vertices old.asked p)
+      → IsPut old.problem new.vertices (es ++ map as_entry a.given) c
+  here all c is named rest =
       let given = all.is at_v.0 at_v.1 in
-      let r = given_of old.problem new.vertices given.causes a.given c given.given
-      ((given.are.listed c).1 (is, first)) in
+      let r = given_of old.problem new.vertices given.causes a.given c given.given (given.all c is named rest) in
       let k = r.1 in
       let same : entry (es ++ map as_entry a.given) (length es + r.0) ≡ entry (map as_entry a.given) r.0 =
       get_or-append_right es (map as_entry a.given) (length es) (length es + r.0) no_entry refl (omega arith)
@@ -372,33 +399,46 @@ module _ {v i : ℕ} {old new : EncodedView} {t wide : TrailView} {es more : Lis
             Says old.problem new.vertices e.terms (terms_of_cause old.problem c)) (sym same) r.3,
       )
 
-  pairs_all : AreAll v i old new a.came a.given → AreStored old.problem old.vertices old.asked es → (n j : ℕ)
-      (w : Vertex) → has (set_of new.asked n) j ≡ true → slice_get new.vertices n ≡ Some w
-      → IsPut old.problem new.vertices (es ++ map as_entry a.given) (w, state_at old.problem w j)
-  pairs_all all was n j w h at = elim (marked_either old.asked a.came v i inside lt n j
+  -- a pair that is asked for afterwards is the one, or was so
+  which : AreAll v i old new a.came a.given → (p : Pair) → IsAskedFor old.problem new.vertices new.asked p
+      → (p ≡ now_asked) ⊎ IsAskedFor old.problem old.vertices old.asked p
+  which all p (n, j, at, h, is) = elim (marked_either old.asked a.came v i inside lt n j
       (subst (λ (l : List Members). has (set_of l n) j ≡ true) all.marks h)) [
         | inl e ↦
-            let same : at_v.0 ≡ w = same_Some at_v.0 w (sym now_at ∙ ap (slice_get new.vertices) (sym e.0) ∙ at) in
-            subst (λ k.
-            IsPut old.problem new.vertices (es ++ map as_entry a.given) (w, state_at old.problem w k)) (sym e.1)
-            (subst (λ x. IsPut old.problem new.vertices (es ++ map as_entry a.given)
-            (x, state_at old.problem x i)) same (here all))
-        | inr r ↦ kept was n j w r.0 r.1 at
+            let same : at_v.0 ≡ p.0 = same_Some at_v.0 p.0 (sym now_at ∙ ap (slice_get new.vertices) (sym e.0) ∙ at) in
+            let state : state_at old.problem at_v.0 i ≡ p.1 =
+            ap₂ (state_at old.problem) same (sym e.1) ∙ is in
+            inl (λ i. (sym same i, sym state i))
+        | inr r ↦ inr (was_asked p n j r.0 r.1 at is)
       ]
 
-  pairs_first : AreFirst v i old new a.came a.given → AreStored old.problem old.vertices old.asked es → (n j : ℕ)
-      (w : Vertex) → has (set_of new.asked n) j ≡ true → slice_get new.vertices n ≡ Some w
-      → IsPut old.problem new.vertices (es ++ map as_entry a.given) (w, state_at old.problem w j)
-  pairs_first first was n j w h at =
-      let r = wide_either old.asked a.came n j
-      (subst (λ (l : List Members). has (set_of l n) j ≡ true) first.marks h) in
-      kept was n j w r.0 r.1 at
+  pairs_all : AreAll v i old new a.came a.given → AreStored old.problem old.vertices old.asked es → (c : Cause)
+      → is_cause old.problem c ≡ true
+      → ((p : Pair) → Contains (pairs_of c) p → IsAskedFor old.problem new.vertices new.asked p)
+      → IsPut old.problem new.vertices (es ++ map as_entry a.given) c
+  pairs_all all was c t asked =
+      let rest : (p : Pair) → Contains (pairs_of c) p
+      → (p ≡ now_asked) ⊎ IsAskedFor old.problem old.vertices old.asked p = λ p h. which all p (asked p h) in
+      elim (one_or_all now_asked (IsAskedFor old.problem old.vertices old.asked) (pairs_of c) rest) [
+        | inl named ↦ here all c t named rest
+        | inr before ↦ kept was c t before
+      ]
+
+  pairs_first : AreFirst v i old new a.came a.given → AreStored old.problem old.vertices old.asked es → (c : Cause)
+      → is_cause old.problem c ≡ true
+      → ((p : Pair) → Contains (pairs_of c) p → IsAskedFor old.problem new.vertices new.asked p)
+      → IsPut old.problem new.vertices (es ++ map as_entry a.given) c
+  pairs_first first was c t asked = kept was c t (λ p h.
+      let f = asked p h in
+      let r = wide_either old.asked a.came f.0 f.1
+      (subst (λ (l : List Members). has (set_of l f.0) f.1 ≡ true) first.marks f.3) in
+      was_asked p f.0 f.1 r.0 r.1 f.2 f.4)
 
   pub asked_stored : AreStored old.problem old.vertices old.asked es → AreStored new.problem new.vertices new.asked more
   asked_stored was = subst (λ p. AreStored p new.vertices new.asked more) (sym a.same)
       (subst (AreStored old.problem new.vertices new.asked) (sym entries) (record {
-        root_is = added_on old.problem new.vertices es (map as_entry a.given) _
-            (added_grown old.problem old.vertices new.vertices es _ a.grown a.numbering was.root_is);
+        root_is = λ t. added_on old.problem new.vertices es (map as_entry a.given) of_root
+            (added_grown old.problem old.vertices new.vertices es of_root a.grown a.numbering (was.root_is t));
         pairs = elim a.how [
           | inl all ↦ pairs_all all was
           | inr first ↦ pairs_first first was

@@ -1,5 +1,5 @@
 -- A guide as its fields are, before and after it asks for a pair.
-use Rattle.std.proofs.Common.{◌≡◌, ◌⊎◌, inl, inr, ℕ, suc, ◌<◌, ◌≤◌, true, List, length, map, take, Result, Ok}
+use Rattle.std.proofs.Common.{◌≡◌, ◌⊎◌, inl, inr, ℕ, suc, ◌<◌, ◌≤◌, true, List, Contains, length, map, take, Result, Ok}
 use Rattle.std.proofs.Common.{Err, Option, Some, slice_get, refl, sym, ap, ◌∙◌, subst, arith}
 use Rattle.std.specs.Prelude.{OnErr, OnOk}
 use Rattle.std.proofs.lemmas.List.{length-map}
@@ -16,18 +16,19 @@ use Rattle.numbering.specs.inner.Assignments.{state_at}
 use Rattle.numbering.specs.inner.KnownProblem.{KnowsDefault, problem}
 use Rattle.numbering.specs.Numberings.{IsGrown, IsNumbering, Numbering}
 use Rattle.numbering.specs.inner.CausesAt.{first_causes}
-use Rattle.numbering.specs.Pairs.{AreOfPair, Given, IsFirstGiven, IsGivenAt}
+use Rattle.numbering.specs.inner.AskedFor.{IsGivenNext}
+use Rattle.numbering.specs.Pairs.{AreOfPair, Given, IsFirstGiven, pairs_of}
 use Rattle.numbering.proofs.AddLaws.{state_in}
 use Rattle.numbering.proofs.CausesLaws.{first_there}
+use Rattle.numbering.proofs.Overtaken.{first_named}
 use Rattle.model.specs.Axioms.{IsVertex}
 use Rattle.model.proofs.Members.{element}
 use Rattle.numbering.specs.declared.known_problem.KnownProblem.{KnownProblem}
 use Rattle.guiding.specs.inner.Searching.{HasSpaces, IsOnly, IsSeen, Pairs}
 use Rattle.guiding.specs.inner.Searching as searching
 use Rattle.guiding.proofs.Seen.{seen_all}
-use Rattle.guiding.specs.inner.Guides.{AreAll, AreFirst, EncodedView, IsAsking, IsCome, IsEncoding, encoded_view}
-use Rattle.guiding.specs.inner.Guides.{on_trail}
-use Rattle.guiding.specs.inner.Guides.{marked, with_given}
+use Rattle.guiding.specs.inner.Guides.{AreAll, AreFirst, EncodedView, IsAskedFor, IsAsking, IsCome, IsEncoding, encoded_view}
+use Rattle.guiding.specs.inner.Guides.{marked, on_trail, with_given}
 use Rattle.guiding.specs.inner.Remaining.{spaces_of}
 use Rattle.guiding.proofs.Marks.{lengths_at, mark_lengths}
 use Rattle.guiding.proofs.OnTrail.{on_trail_at}
@@ -81,9 +82,10 @@ pub first_of : (i : KnownProblem) (vs new : Numbering) (v s : ℕ) (asked : List
     → (w : Vertex) → slice_get vs v ≡ Some w → AreOfPair (problem i) new (w, state_at (problem i) w s) given
 first_of i vs new v s asked given is below first w at = record {
   causes = first_causes (problem i) w (state_at (problem i) w s);
-  are = λ c h. first_there (problem i) w (state_at (problem i) w s)
+  are = λ c h. let r = first_there (problem i) w (state_at (problem i) w s)
       (element (λ v. IsVertex (problem i) v) vs v w is.numbering.there at)
-      (state_in (problem i) w s (state_at (problem i) w s) (below w at) refl) c h;
+      (state_in (problem i) w s (state_at (problem i) w s) (below w at) refl) c h in
+      (r.0, subst (Contains (pairs_of c)) r.1 (first_named c));
   given = first w at;
 }
 
@@ -122,7 +124,8 @@ module _ (i : KnownProblem) (vs new : Numbering) (asked mid last : List Members)
   })
 
   -- all of them
-  pub asking_by : ((w : Vertex) → slice_get vs v ≡ Some w → IsGivenAt (problem i) new (w, state_at (problem i) w s) given)
+  pub asking_by : ((w : Vertex) → slice_get vs v ≡ Some w
+      → IsGivenNext (problem i) new (IsAskedFor (problem i) vs asked) (w, state_at (problem i) w s) given)
       → last ≡ marked mid v s → m ≡ n → IsAsking v s old after t wide es more
   asking_by is marks e =
       by_how (inl (record { marks = marks ∙ ap (λ l. marked l v s) come.sets; is = is; begins = e }))

@@ -3,6 +3,7 @@ pub mod Remaining
 pub mod Arrivals
 pub mod FirstTerms
 pub mod Marks
+pub mod Noting
 pub mod OnTrail
 pub mod Alone
 pub mod Asked

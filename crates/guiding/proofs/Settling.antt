@@ -1,7 +1,7 @@
 -- At the end of a search that found a selection: each vertex takes absent where it may, else its one state, and no
 -- instance is broken.
-use Rattle.std.proofs.Common.{◌≡◌, ◌≢◌, ℕ, zero, suc, ◌<◌, ◌||◌, true, false, List, [], ◌∷◌, length, map}
-use Rattle.std.proofs.Common.{Option, Some, None, slice_get, refl, sym, ap, ◌∙◌, subst, arith}
+use Rattle.std.proofs.Common.{◌≡◌, ◌≢◌, ◌⊎◌, inl, inr, ℕ, zero, suc, ◌<◌, ◌||◌, true, false, List, [], ◌∷◌, length, map}
+use Rattle.std.proofs.Common.{Contains, Option, Some, None, slice_get, refl, sym, ap, ◌∙◌, subst, arith}
 use Rattle.std.proofs.lemmas.Bool.{false≢true, ne_eqb}
 use Rattle.std.proofs.lemmas.List.{length-map}
 use Rattle.std.proofs.lemmas.Option.{same_Some, slice_get_within}
@@ -18,21 +18,23 @@ use Rattle.propagation.proofs.Back.{sets_now}
 use Rattle.propagation.proofs.Places.{some_at}
 use Rattle.propagation.proofs.Vertices.{in_range}
 use Rattle.model.specs.Content.{Problem}
-use Rattle.model.specs.Vertices.{State, Vertex, absent, root, space}
+use Rattle.model.specs.Vertices.{State, Vertex, absent, space}
 use Rattle.model.specs.inner.Search.{IsUnbroken}
-use Rattle.refutations.specs.Causes.{Cause, terms_of_cause}
+use Rattle.model.proofs.Lists.{in_cons, in_first, in_none, in_rest}
+use Rattle.refutations.specs.Causes.{Cause, is_cause, of_root, terms_of_cause}
 use Rattle.numbering.specs.inner.Assignments.{IsAdded, IsSettled, state_at, state_if, state_of}
 use Rattle.numbering.specs.inner.Finals.{IsAtRest, IsFinal}
 use Rattle.numbering.specs.Numberings.{IsNumbering, Numbering, Says, number_in}
-use Rattle.numbering.specs.Pairs.{Pair, first_pair}
+use Rattle.numbering.specs.Pairs.{Pair, pairs_of}
 use Rattle.numbering.proofs.Absent.{instance_one_zero}
 use Rattle.numbering.proofs.Final.{breaks_not}
 use Rattle.numbering.proofs.Places.{number_at}
 use Rattle.numbering.proofs.Settled.{is_unbroken}
 use Rattle.guiding.specs.inner.Searching.{AllAsked, HasSpaces}
 use Rattle.guiding.specs.inner.Following as following
-use Rattle.guiding.specs.inner.Guides.{first_in, AreStored, IsDone, IsOfInstance, IsPut, asked_of, on_trail}
+use Rattle.guiding.specs.inner.Guides.{AreStored, IsAskedFor, IsDone, IsOfInstance, IsPut, asked_of, first_in, on_trail}
 use Rattle.guiding.specs.inner.Remaining.{spaces_of}
+use Rattle.guiding.proofs.AbsentPairs.{only_root}
 use Rattle.guiding.proofs.Alone.{one_member}
 use Rattle.guiding.proofs.Marks.{lengths_at}
 use Rattle.guiding.proofs.OnTrail.{on_trail_at}
@@ -137,9 +139,8 @@ module _ (q : Problem) (vs : Numbering) (asked : List Members) (es : List EntryV
           let b = has_below s (chosen u) h in
           let l = trail.lies id lt u s e in omega (arith, b, l)
 
-  added : (p : Pair) → IsPut q vs es p → IsAdded q vs (axioms_of es) p
-  added p put c is first =
-      let r = put c is first in
+  added : (c : Cause) → IsPut q vs es c → IsAdded q vs (axioms_of es) c
+  added c r =
       let same : entry (axioms_of es) r.0 ≡ entry es r.0 =
       axioms_at es r.0 r.1 ∙ axiom_kept (entry es r.0).origin (entry es r.0) r.2 in (
         r.0,
@@ -188,38 +189,62 @@ module _ (q : Problem) (vs : Numbering) (asked : List Members) (es : List EntryV
       not_absent : (j : ℕ) → 0 < j → asked_of asked n j ≡ true → has (set_of asked n) j ≡ true
       not_absent j some h = sym (ap (λ b. b || has (set_of asked n) j) (ne_eqb j 0 (λ e. omega (arith, some, e)))) ∙ h
 
-  -- a pair with absent is the root's, or no cause's
-  absent_put : (v : Vertex) → IsPut q vs es (v, absent)
-  absent_put v c is first = stored.root_is c is (of_root c first)
+  -- unless it is with absent, which is the root's alone
+  asked_for : (c : Cause) (p : Pair) → Contains (pairs_of c) p → state_of q vs chosen p.0 ≡ p.1
+      → (c ≡ of_root) ⊎ IsAskedFor q vs asked p
+  asked_for c (v, s) here holds = by (number_in vs v) refl holds
     where
-      of_root : (c : Cause) → first_pair c ≡ (v, absent) → first_pair c ≡ (root, absent)
-      of_root c e = Rattle.guiding.proofs.AbsentPairs.only_root c v e
+      root_of : s ≡ absent → (c ≡ of_root) ⊎ IsAskedFor q vs asked (v, s)
+      root_of e = inl (only_root c v (subst (λ r. Contains (pairs_of c) (v, r)) e here))
 
-  put_at : (v : Vertex) (o : Option ℕ) → number_in vs v ≡ o → IsPut q vs es (v, state_if q chosen v o)
-  put_at v None e = absent_put v
-  put_at v (Some n) e = at (chosen n) refl
-    where
-      there : slice_get vs n ≡ Some v
-      there = number_at vs v n e
+      zero_state : state_at q v 0 ≡ absent
+      zero_state = let s = Rattle.guiding.proofs.FirstTerms.space_starts q v in
+          ap (λ (l : List State). Rattle.std.specs.Prelude.unwrap_or (slice_get l 0) absent) s.1
 
-      at : (i : ℕ) → chosen n ≡ i → IsPut q vs es (v, state_at q v (chosen n))
-      at zero is = subst (λ i. IsPut q vs es (v, state_at q v i)) (sym is)
-          (subst (λ s. IsPut q vs es (v, s)) (sym zero_state) (absent_put v))
+      by : (o : Option ℕ) → number_in vs v ≡ o → state_if q chosen v o ≡ s
+          → (c ≡ of_root) ⊎ IsAskedFor q vs asked (v, s)
+      by None e is = root_of (sym is)
+      by (Some n) e is = at (chosen n) refl is
         where
-          zero_state : state_at q v 0 ≡ absent
-          zero_state = let s = Rattle.guiding.proofs.FirstTerms.space_starts q v in
-              ap (λ (l : List State). Rattle.std.specs.Prelude.unwrap_or (slice_get l 0) absent) s.1
-      at (suc i) is =
-          let lt = slice_get_within vs n v there in
-          subst (λ k. IsPut q vs es (v, state_at q v k)) (sym is) (stored.pairs n (suc i) v (alone n (suc i)
-          (omega arith) is (omega (arith, lt, whole, spaced.vertices, length-map asked length))) there)
+          there : slice_get vs n ≡ Some v
+          there = number_at vs v n e
+
+          at : (i : ℕ) → chosen n ≡ i → state_at q v (chosen n) ≡ s → (c ≡ of_root) ⊎ IsAskedFor q vs asked (v, s)
+          at zero same is = root_of (sym is ∙ ap (state_at q v) same ∙ zero_state)
+          at (suc i) same is =
+              let lt = slice_get_within vs n v there in
+              inr (
+                n,
+                suc i,
+                there,
+                alone n (suc i) (omega arith) same
+                    (omega (arith, lt, whole, spaced.vertices, length-map asked length)),
+                ap (state_at q v) (sym same) ∙ is,
+              )
+
+  all_asked : (c : Cause) (ps : List Pair)
+      → ((p : Pair) → Contains ps p → (c ≡ of_root) ⊎ IsAskedFor q vs asked p)
+      → (c ≡ of_root) ⊎ ((p : Pair) → Contains ps p → IsAskedFor q vs asked p)
+  all_asked c [] each = inr (λ p h. absurd (in_none p h))
+  all_asked c (r ∷ ps) each = elim (each r (in_first r ps)) [
+    | inl e ↦ inl e
+    | inr a ↦ elim (all_asked c ps (λ p h. each p (in_rest r p ps h))) [
+      | inl e ↦ inl e
+      | inr all ↦
+          inr (λ p h. elim (in_cons r p ps h) [ inl e ↦ subst (IsAskedFor q vs asked) e a | inr d ↦ all p d ])
+    ]
+  ]
+
+  put : (c : Cause) → is_cause q c ≡ true
+      → (c ≡ of_root) ⊎ ((p : Pair) → Contains (pairs_of c) p → IsAskedFor q vs asked p) → IsPut q vs es c
+  put c t (inl e) = subst (IsPut q vs es) (sym e) (stored.root_is (subst (λ x. is_cause q x ≡ true) e t))
+  put c t (inr all) = stored.pairs c t all
 
   settled : IsSettled q vs (axioms_of es) chosen
   settled = record {
     within = within;
     none_broken = aside;
-    added = λ v s e. subst (λ r. IsAdded q vs (axioms_of es) (v, r)) e
-        (added (v, state_of q vs chosen v) (put_at v (number_in vs v) refl));
+    added = λ c t holds. added c (put c t (all_asked c (pairs_of c) (λ p h. asked_for c p h (holds p h))));
   }
 
   -- so there is an assignment of all vertices that breaks no instance

@@ -13,13 +13,14 @@ use Rattle.propagation.proofs.SetLemmas.{size_every}
 use Rattle.propagation.proofs.Soundness.{trail_grown}
 use Rattle.model.specs.Content.{Content}
 use Rattle.model.specs.Vertices.{Vertex, absent, root}
-use Rattle.refutations.specs.Causes.{kind_of, terms_of_cause}
+use Rattle.refutations.specs.Causes.{is_cause, kind_of, of_root, terms_of_cause}
 use Rattle.refutations.proofs.CauseLaws.{cause_instance}
 use Rattle.numbering.specs.inner.Assignments.{state_at}
 use Rattle.numbering.specs.inner.KnownProblem.{problem}
 use Rattle.numbering.specs.Numberings.{Numbering}
-use Rattle.numbering.specs.Pairs.{Given, IsGivenAt}
+use Rattle.numbering.specs.Pairs.{Given, IsGivenAt, first_pair}
 use Rattle.numbering.specs.declared.known_problem.KnownProblem.{KnownProblem}
+use Rattle.numbering.proofs.Overtaken.{first_named}
 use Rattle.guiding.specs.inner.Searching.{HasSpaces, IsSeen}
 use Rattle.guiding.specs.inner.Following as following
 use Rattle.guiding.specs.inner.Following.{IsLeft}
@@ -77,8 +78,8 @@ begun i follows put vs n m asked t wide more given encoding can at come whole ba
       uncombined = none_combined;
       stored = record {
         root_is = root_put;
-        pairs = λ u j v h e. absurd
-            (false≢true (sym (ap (λ (l : List Members). has (set_of l u) j) come.sets ∙ past_none come.came u j) ∙ h));
+        pairs = λ c t all. (let f = all (first_pair c) (first_named c) in absurd (false≢true (sym (ap
+            (λ (l : List Members). has (set_of l f.0) f.1) come.sets ∙ past_none come.came f.0 f.1) ∙ f.3)));
       };
       follows_is = refl;
       can_follow = can;
@@ -117,9 +118,9 @@ begun i follows put vs n m asked t wide more given encoding can at come whole ba
           origin = g.origin;
         }
 
-    root_put : IsPut (problem i) vs (map as_entry given) (root, absent)
-    root_put c there first =
-        given_of (problem i) vs root_given.causes given c root_given.given ((root_given.are.listed c).1 (there, first))
+    root_put : is_cause (problem i) of_root ≡ true → IsPut (problem i) vs (map as_entry given) of_root
+    root_put there = given_of (problem i) vs root_given.causes given of_root root_given.given
+        ((root_given.are.listed of_root).1 (there, refl))
 
     are_axioms : (id : ℕ) → id < length (map as_entry given) → IsAxiom (entry (map as_entry given) id).origin
     are_axioms id lt =

@@ -1,10 +1,10 @@
 //! Vertices that come onto the trail once an instance speaks of them.
 
-ghost use Rattle.std.specs.Prelude.{◌≡◌, ◌+◌, ◌<◌, ◌≤◌, OnOk, length, map};
+ghost use Rattle.std.specs.Prelude.{◌≡◌, ◌+◌, ◌<◌, ◌≤◌, OnErr, OnOk, length, map};
 ghost use Rattle.incompatibilities.specs.Stores.{entries_view};
 ghost use Rattle.propagation.specs.Promises.{IsTrail};
 ghost use Rattle.propagation.specs.Trails.{trail_view};
-ghost use Rattle.guiding.specs.inner.Guides.{IsCome, IsEncoding};
+ghost use Rattle.guiding.specs.inner.Guides.{IsCome, IsEncoding, IsMore};
 
 use incompatibilities::Store;
 use numbering::{KnownProblem, Table, space_at};
@@ -28,6 +28,7 @@ fn come_next<S: States + Drop>(
     ensures came { OnOk result (IsCome (map S.tests asked.old.items) (map S.tests asked.new.items)
         (trail_view S.tests trail.old) (trail_view S.tests trail.new)) }
     ensures longer { OnOk result (length asked.new.items ≡ length asked.old.items + 1) }
+    ensures same { OnErr result (map S.tests asked.new.items ≡ map S.tests asked.old.items) }
     ensures trail { IsTrail (entries_view S.tests store.now) (trail_view S.tests trail.new) }
 {
     let space = space_at(alloc, known, table, asked.len())?;
@@ -54,6 +55,7 @@ pub(crate) fn come<S: States + Drop>(
     ensures encoding { IsEncoding known.now table.now (map S.tests asked.new.items) }
     ensures came { OnOk result (IsCome (map S.tests asked.old.items) (map S.tests asked.new.items)
         (trail_view S.tests trail.old) (trail_view S.tests trail.new)) }
+    ensures more { IsMore (map S.tests asked.old.items) (map S.tests asked.new.items) }
     ensures whole { OnOk result (length table.now ≤ length asked.new.items) }
     ensures trail { IsTrail (entries_view S.tests store.now) (trail_view S.tests trail.new) }
 {

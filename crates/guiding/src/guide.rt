@@ -11,8 +11,7 @@ ghost use Rattle.propagation.specs.Trails.{set_of, trail_view};
 ghost use Rattle.guiding.specs.inner.Searching.{CanDecide, HasSpaces};
 ghost use Rattle.version_sets.specs.Sets.{has, size};
 ghost use Rattle.vertices.specs.inner.RefViews.{vertex_ref_view};
-ghost use Rattle.guiding.specs.inner.Guides.{CanAsk, CanFollow, Follows, HasBegun, IsAsking, IsFollowed, IsUnasked};
-ghost use Rattle.guiding.specs.inner.Guides.{on_trail};
+ghost use Rattle.guiding.specs.inner.Guides.{CanAsk, CanFollow, Follows, HasBegun, IsAsking, IsFollowed, IsUnasked, on_trail};
 ghost use Rattle.guiding.specs.inner.Remaining.{spaces_of};
 
 use crate::choosing::{greatest, is_undecided};
@@ -27,7 +26,7 @@ use crate::states::state_in;
 use catalogue::catalogues_are_well_formed;
 use incompatibilities::{Id, Store};
 use lockfile::LockContent;
-use numbering::{KnownProblem, Table, axioms_at, first_axioms_at};
+use numbering::{KnownProblem, Noted, Table, axioms_at, first_axioms_at, next_axioms_at};
 use propagation::Trail;
 use std::alloc::{AllocError, Global};
 use std::collections::BTreeSet;
@@ -45,6 +44,8 @@ pub struct Encoded<'a, S: States> {
     follows: Option<LockContent>,
     /// Of each vertex that the trail has, the states that were asked for.
     asked: Vec<S>,
+    /// Those of them that are classes of dependencies, by owner and package.
+    noted: Noted<'a>,
     /// Of so many places of the trail the vertex was looked at.
     seen: usize,
     order: Order,
@@ -62,7 +63,7 @@ pub struct Encoded<'a, S: States> {
 impl<'a, S: States> Model for Encoded<'a, S> {
     ghost use Rattle.std.specs.Prelude.{map};
     ghost use Rattle.numbering.specs.inner.KnownProblem.{problem};
-    ghost use Rattle.guiding.specs.inner.Guides.{CanFollow, EncodedView, IsEncoding, encoded_view};
+    ghost use Rattle.guiding.specs.inner.Guides.{AreNoted, CanFollow, EncodedView, IsEncoding, encoded_view};
 
     ghost Value = { EncodedView };
 
@@ -70,7 +71,8 @@ impl<'a, S: States> Model for Encoded<'a, S> {
         encoded_view (problem g.known) g.table (map S.tests g.asked.items) g.seen g.follows g.to_begin };
 
     ghost invariant = { λ g. IsEncoding g.known g.table (map S.tests g.asked.items)
-        × CanFollow (problem g.known) g.follows };
+        × CanFollow (problem g.known) g.follows
+        × AreNoted (problem g.known) g.table (map S.tests g.asked.items) g.noted };
 }
 
 impl<'a, S: States + Drop> Encoded<'a, S> {
@@ -106,6 +108,7 @@ impl<'a, S: States + Drop> Encoded<'a, S> {
             table,
             follows,
             asked,
+            noted: Noted::new(alloc),
             seen: 0,
             order: Order::new(alloc),
             next: None,
@@ -172,7 +175,14 @@ impl<'a, S: States + Drop> Encoded<'a, S> {
         known
             .matched
             .keep_at(self.alloc, &self.table, vertex, number)?;
-        let given = axioms_at(self.alloc, &self.known, &mut self.table, vertex, number)?;
+        let given = next_axioms_at(
+            self.alloc,
+            &self.known,
+            &mut self.table,
+            &mut self.noted,
+            vertex,
+            number,
+        )?;
         // The vertices first: the store may speak only of those that the trail has.
         come(
             self.alloc,

@@ -14,9 +14,10 @@
 //! asked for before (`leads.rt`), so that a version which they leave out at once opens no level. The contract asks only
 //! for a state that is left, so another preference changes no proof.
 //!
-//! Where an owner has several dependencies on one package, each has an instance with every class of the others, so a
-//! pair of such a one is begun with those that name no other (`begin_with`). The rest comes once these are propagated
-//! and the class is still left: 64 dependencies over 60 classes that lack a feature take 2 % of the time.
+//! Where an owner has several dependencies on one package, one that leads to a class may overtake another in any of its
+//! classes. So a pair of such a one is begun with the instances that name no other (`begin_with`). The rest comes once
+//! these are propagated and the class is still left, and of it what names a class of another one that was asked for
+//! too: 64 dependencies over 120 classes that lack a feature take 3 % of the time and 6 % of the memory.
 //!
 //! The loop, which takes turns and ends without a budget, is `turns.rt`; it knows nothing of Cargo, and what it
 //! searches comes from a `Guide` (`guidance.rt`). What a lock says to a search that follows it is `states.rt`.

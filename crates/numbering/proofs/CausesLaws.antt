@@ -1,5 +1,5 @@
 -- The causes that are listed for a vertex and one of its states are those whose first term says so.
-use Rattle.std.proofs.Common.{◌≡◌, ◌≢◌, ◌↔◌, ◌+◌, ℕ, List, [], ◌∷◌, ◌++◌, map, Bool, true, false, not, cond, ◌&&◌, ◌||◌}
+use Rattle.std.proofs.Common.{◌≡◌, ◌≢◌, ◌↔◌, ℕ, List, [], ◌∷◌, ◌++◌, map, Bool, true, false, not, cond, ◌&&◌, ◌||◌}
 use Rattle.std.proofs.Common.{Contains, Option, Some, None, nat_eq, refl, sym, ap, ◌∙◌, subst, inl, inr, true≢false}
 use Rattle.std.specs.List.{list_any, flat_map}
 use Rattle.std.proofs.lemmas.Bool.{and_from, not-true}
@@ -11,12 +11,12 @@ use Rattle.model.specs.Optional.{passes}
 use Rattle.model.specs.Selection.{Class, class_of}
 use Rattle.model.specs.Vertices.{Owner, the_root, version_of, Vertex, root, pkg, dep, feat, ask, State, absent, present}
 use Rattle.model.specs.Vertices.{version, in_class, same_vertex, owner_brings, dep_classes, dep_space, class_candidates}
-use Rattle.model.specs.Vertices.{in_that_class, same_class, space}
+use Rattle.model.specs.Vertices.{in_that_class, space}
 use Rattle.model.specs.Axioms.{is_lower, IsVertex, RootAsks}
 use Rattle.model.proofs.Flat.{in_flat, to_flat}
 use Rattle.model.proofs.Lists.{in_none, in_cons, in_first, in_rest, in_filter, in_map, to_map, any_of, to_any}
 use Rattle.model.proofs.Lists.{pairs_none}
-use Rattle.model.proofs.Same.{both, text-same, text-refl, class-same, class-refl}
+use Rattle.model.proofs.Same.{both, text-same, text-refl, class-same}
 use Rattle.refutations.specs.Causes.{Cause, of_root, of_need, of_target, of_feature, of_list, of_ask, of_entry}
 use Rattle.refutations.specs.Causes.{of_enabling, of_asking, of_newest, of_weak, same_entry, enables, is_needed}
 use Rattle.refutations.specs.Causes.{dependency_at, has_class, has_entry, some_entry, lists_feature, root_asks_for}
@@ -27,9 +27,9 @@ use Rattle.refutations.proofs.Named.{entry-refl, passes-is, to_passes, has_entry
 use Rattle.refutations.proofs.Named.{to_class, to_lists, to_feature, to_some_entry}
 use Rattle.numbering.specs.Pairs.{Pair, owner_pair, first_pair, AreCausesAt, IsCauseAt}
 use Rattle.numbering.specs.inner.CausesAt.{each_from, need_if, turned_if, weak_if, needs_of, entry_if, entry_causes}
-use Rattle.numbering.specs.inner.CausesAt.{feature_causes, version_causes, root_asked, newest_above, newest_at}
-use Rattle.numbering.specs.inner.CausesAt.{newest_if}
+use Rattle.numbering.specs.inner.CausesAt.{feature_causes, version_causes, root_asked, newest_if, overtaken_if}
 use Rattle.numbering.specs.inner.CausesAt.{alone_causes, lead_causes, causes_at, first_causes, with_causes}
+use Rattle.numbering.specs.inner.OnPackage.{is_other}
 use Rattle.numbering.proofs.Each.{from_if, in_all, only_one, to_all, to_if}
 use Rattle.numbering.proofs.SameCauses.{all_once, same_ones}
 
@@ -101,7 +101,7 @@ module _ (q : Problem) where
       (subst (λ x. Contains (x ∷ []) g) (text-same g (r.0).1 p.1) (in_first g [])))
   root_asked_there (version_of name v) d g t = absurd (true≢false (sym t))
 
-  asked_there : (o : Owner) (d : Dependency) (g : List ℕ) → lists_feature q o d g ≡ true
+  pub asked_there : (o : Owner) (d : Dependency) (g : List ℕ) → lists_feature q o d g ≡ true
       → Contains (asked_of_target d ++ root_asked q o d) g
   asked_there o d g t = by (list_any (same_text g) (asked_of_target d)) refl t
     where
@@ -111,25 +111,39 @@ module _ (q : Problem) where
           (root_asked q o d) g (subst (Contains (asked_of_target d)) (sym (text-same g r.0 r.2)) r.1)
       by false e h = Contains-append_right (asked_of_target d) (root_asked q o d) g (root_asked_there o d g h)
 
-  newest_there : (o : Owner) (i j : ℕ) (k m : Class) (d e : Dependency) → dependency_at q o j ≡ Some e
-      → nat_eq i j ≡ false → is_overtaken q k m d e ≡ true
-      → Contains (flat_map (newest_above q o i k d) (dep_classes q d)) (of_newest o i j k m)
-  newest_there o i j k m d e at apart t =
-      let a = both (same_text d.real_name e.real_name)
-      (has_class q k d && (has_class q m e && (is_lower k m && has_class q m d))) t in
-      let b = both (has_class q k d) (has_class q m e && (is_lower k m && has_class q m d)) a.1 in
-      let c = both (has_class q m e) (is_lower k m && has_class q m d) b.1 in
-      let l = both (is_lower k m) (has_class q m d) c.1 in
-      to_flat (newest_above q o i k d) (dep_classes q d) m (of_newest o i j k m) (class-is q d m l.1)
-      (to_if (is_lower k m) (of_newest o i j k m)
-      (each_from (newest_if q o i k d m) 0 (owner_brings q o).dependencies) l.0
-      (to_all (newest_if q o i k d m) (owner_brings q o).dependencies j e (of_newest o i j k m) at
-      (to_unless (nat_eq i j) (of_newest o i j k m) _ apart
-      (to_if (same_text d.real_name e.real_name) (of_newest o i j k m)
-      (flat_map (newest_at o i j k m) (dep_classes q e)) a.0
-      (to_flat (newest_at o i j k m) (dep_classes q e) m (of_newest o i j k m) (class-is q e m c.0)
-      (to_if (same_class m m) (of_newest o i j k m) (of_newest o i j k m ∷ []) (class-refl m)
-      (in_first (of_newest o i j k m) [])))))))
+  pub newest_there : (o : Owner) (i j : ℕ) (k m : Class) (d e : Dependency) → dependency_at q o j ≡ Some e
+      → is_other i d.real_name j e ≡ true → has_class q m e ≡ true → (is_lower k m && has_class q m d) ≡ true
+      → Contains (each_from (newest_if q o i k d) 0 (owner_brings q o).dependencies) (of_newest o i j k m)
+  newest_there o i j k m d e at other has higher =
+      let c = of_newest o i j k m in
+      to_all (newest_if q o i k d) (owner_brings q o).dependencies j e c at
+      (to_if (is_other i d.real_name j e) c (flat_map (overtaken_if q o i k d j) (dep_classes q e)) other
+      (to_flat (overtaken_if q o i k d j) (dep_classes q e) m c (class-is q e m has)
+      (to_if (is_lower k m && has_class q m d) c (c ∷ []) higher (in_first c []))))
+
+  -- what its being there says
+  pub newest_is : (o : Owner) (i j : ℕ) (k m : Class) → is_cause q (of_newest o i j k m) ≡ true
+      → (d : Dependency) × (e : Dependency) × (dependency_at q o i ≡ Some d) × (dependency_at q o j ≡ Some e)
+      × (is_other i d.real_name j e ≡ true) × (has_class q k d ≡ true) × (has_class q m e ≡ true)
+      × ((is_lower k m && has_class q m d) ≡ true)
+  newest_is o i j k m t =
+      let x = both (not (nat_eq i j))
+      (passes (λ d. passes (is_overtaken q k m d) (dependency_at q o j)) (dependency_at q o i)) t in
+      let r = passes-is (λ d. passes (is_overtaken q k m d) (dependency_at q o j)) (dependency_at q o i) x.1 in
+      let s = passes-is (is_overtaken q k m r.0) (dependency_at q o j) r.2 in
+      let a = both (same_text (r.0).real_name (s.0).real_name)
+      (has_class q k r.0 && (has_class q m s.0 && (is_lower k m && has_class q m r.0))) s.2 in
+      let b = both (has_class q k r.0) (has_class q m s.0 && (is_lower k m && has_class q m r.0)) a.1 in
+      let c = both (has_class q m s.0) (is_lower k m && has_class q m r.0) b.1 in (
+        r.0,
+        s.0,
+        r.1,
+        s.1,
+        and_from (not (nat_eq i j)) (same_text (r.0).real_name (s.0).real_name) x.0 a.0,
+        b.0,
+        c.0,
+        c.1,
+      )
 
   pub is_listed : (c : Cause) → is_cause q c ≡ true → Contains (causes_at q (first_pair c).0 (first_pair c).1) c
   is_listed of_root t = in_first of_root []
@@ -171,13 +185,10 @@ module _ (q : Problem) where
       (dependency_feature (r.0).name g) i ∷ of_asking name v f g i ∷ []) (text-refl (r.0).name)
       (in_rest _ (of_asking name v f g i) (of_asking name v f g i ∷ []) (in_first (of_asking name v f g i) [])))
   is_listed (of_newest o i j k m) t =
-      let x = both (not (nat_eq i j))
-      (passes (λ d. passes (is_overtaken q k m d) (dependency_at q o j)) (dependency_at q o i)) t in
-      let r = passes-is (λ d. passes (is_overtaken q k m d) (dependency_at q o j)) (dependency_at q o i) x.1 in
-      let s = passes-is (is_overtaken q k m r.0) (dependency_at q o j) r.2 in
-      lead_there o i k r.0 (of_newest o i j k m) r.1 (in_rest (of_target o i k) (of_newest o i j k m) _
+      let r = newest_is o i j k m t in
+      lead_there o i k r.0 (of_newest o i j k m) r.2 (in_rest (of_target o i k) (of_newest o i j k m) _
       (Contains-append_right (map (of_list o i k) (asked_of_target r.0 ++ root_asked q o r.0)) _ (of_newest o i j k m)
-      (newest_there o i j k m r.0 s.0 s.1 (not-true (nat_eq i j) x.0) s.2)))
+      (newest_there o i j k m r.0 r.1 r.3 r.4 r.6 r.7)))
   is_listed (of_weak name v f g i k) t =
       let r = passes-is (is_weak_on q name v f g k) (dependency_at q (version_of name v) i) t in
       let a = both (has_class q k r.0) (has_entry q name v f (weak_feature (r.0).name g)
@@ -192,6 +203,21 @@ module _ (q : Problem) where
       (of_weak name v f g i k ∷ []) (not-true _ b.1) (in_first (of_weak name v f g i k) []))))
 
 -- ---- and no other
+
+-- a dependency and another one, both in classes to which they may lead, of which the first may lead to the higher one
+pub overtaken_is : (q : Problem) (o : Owner) (i j : ℕ) (k m : Class) (d e : Dependency) → dependency_at q o i ≡ Some d
+    → dependency_at q o j ≡ Some e → is_other i d.real_name j e ≡ true → has_class q k d ≡ true
+    → has_class q m e ≡ true → (is_lower k m && has_class q m d) ≡ true → is_cause q (of_newest o i j k m) ≡ true
+overtaken_is q o i j k m d e at_i at_j other has has_m higher =
+    let a = both (not (nat_eq i j)) (same_text d.real_name e.real_name) other in
+    and_from (not (nat_eq i j))
+    (passes (λ d. passes (is_overtaken q k m d) (dependency_at q o j)) (dependency_at q o i)) a.0
+    (to_passes (λ d. passes (is_overtaken q k m d) (dependency_at q o j)) (dependency_at q o i) d at_i
+    (to_passes (is_overtaken q k m d) (dependency_at q o j) e at_j
+    (and_from (same_text d.real_name e.real_name)
+    (has_class q k d && (has_class q m e && (is_lower k m && has_class q m d))) a.1
+    (and_from (has_class q k d) (has_class q m e && (is_lower k m && has_class q m d)) has
+    (and_from (has_class q m e) (is_lower k m && has_class q m d) has_m higher)))))
 
 module _ (q : Problem) where
   -- the cause is there, and its first term says so
@@ -331,48 +357,32 @@ module _ (q : Problem) where
         (to_lists q o d g (elim (Contains-append_cases (asked_of_target d) (root_asked q o d) g h)
         [ inl a ↦ inl a | inr b ↦ inr (root_asked_back o d g b) ])))) refl
 
-    newest_back : (m : Class) (j : ℕ) (e : Dependency) (c : Cause) → Contains (dep_classes q d) m
-        → is_lower k m ≡ true → dependency_at q o j ≡ Some e → Contains (newest_if q o i k d m j e) c
+    newest_back : (c : Cause) → Contains (each_from (newest_if q o i k d) 0 (owner_brings q o).dependencies) c
         → Is (dep o i) (in_class k) c
-    newest_back m j e c there low at_j h =
-        let a = from_unless (nat_eq i j) c _ h in
-        let b =
-        from_if (same_text d.real_name e.real_name) c (flat_map (newest_at o i j k m) (dep_classes q e)) a.1 in
-        let r = in_flat (newest_at o i j k m) (dep_classes q e) c b.1 in
-        let w = from_if (same_class r.0 m) c (of_newest o i j k m ∷ []) r.2 in
-        let has_m : has_class q m e ≡ true =
-        subst (λ n. has_class q n e ≡ true) (class-same r.0 m w.0) (to_class q e r.0 r.1) in
-        let own = and_from (is_lower k m) (has_class q m d) low (to_class q d m there) in
+    newest_back c h =
+        let r = in_all (newest_if q o i k d) (owner_brings q o).dependencies c h in
+        let j = r.0 in
+        let e = r.1 in
+        let a = from_if (is_other i d.real_name j e) c (flat_map (overtaken_if q o i k d j) (dep_classes q e)) r.3 in
+        let b = in_flat (overtaken_if q o i k d j) (dep_classes q e) c a.1 in
+        let m = b.0 in
+        let w = from_if (is_lower k m && has_class q m d) c (of_newest o i j k m ∷ []) b.2 in
         thus _ _ (of_newest o i j k m) c (only_one (of_newest o i j k m) c w.1)
-        (and_from (not (nat_eq i j))
-        (passes (λ d. passes (is_overtaken q k m d) (dependency_at q o j)) (dependency_at q o i)) (ap not a.0)
-        (to_passes (λ d. passes (is_overtaken q k m d) (dependency_at q o j)) (dependency_at q o i) d at
-        (to_passes (is_overtaken q k m d) (dependency_at q o j) e at_j
-        (and_from (same_text d.real_name e.real_name)
-        (has_class q k d && (has_class q m e && (is_lower k m && has_class q m d))) b.0
-        (and_from (has_class q k d) (has_class q m e && (is_lower k m && has_class q m d)) has
-        (and_from (has_class q m e) (is_lower k m && has_class q m d) has_m own)))))) refl
-
-    above_back : (c : Cause) → (m : Class) × Contains (dep_classes q d) m × Contains (newest_above q o i k d m) c
-        → Is (dep o i) (in_class k) c
-    above_back c (m, there, h) =
-        let l = from_if (is_lower k m) c (each_from (newest_if q o i k d m) 0 (owner_brings q o).dependencies) h in
-        let r = in_all (newest_if q o i k d m) (owner_brings q o).dependencies c l.1 in
-        newest_back m r.0 r.1 c there l.0 r.2 r.3
+        (overtaken_is q o i j k m d e at r.2 a.0 has (to_class q e m b.1) w.0) refl
 
     lead_back : (c : Cause) → Contains (lead_causes q o i k (Some d)) c → Is (dep o i) (in_class k) c
     lead_back c h = elim (in_cons (of_target o i k) c (map (of_list o i k) (asked_of_target d ++ root_asked q o d)
-        ++ flat_map (newest_above q o i k d) (dep_classes q d)) h) [
+        ++ each_from (newest_if q o i k d) 0 (owner_brings q o).dependencies) h) [
           | inl e ↦ thus _ _ (of_target o i k) c (sym e) (to_passes (has_class q k) (dependency_at q o i) d at has) refl
           | inr r ↦ elim (Contains-append_cases (map (of_list o i k) (asked_of_target d ++ root_asked q o d))
-              (flat_map (newest_above q o i k d) (dep_classes q d)) c r) [
+              (each_from (newest_if q o i k d) 0 (owner_brings q o).dependencies) c r) [
                 | inl a ↦ let m =
                     in_map (of_list o i k) (asked_of_target d ++ root_asked q o d) c a in list_back m.0 c m.1 (sym m.2)
-                | inr b ↦ above_back c (in_flat (newest_above q o i k d) (dep_classes q d) c b)
+                | inr b ↦ newest_back c b
               ]
         ]
 
-  class_there : (ks : List Class) (k : Class) → Contains (absent ∷ map in_class ks) (in_class k) → Contains ks k
+  pub class_there : (ks : List Class) (k : Class) → Contains (absent ∷ map in_class ks) (in_class k) → Contains ks k
   class_there ks k c = elim (in_cons absent (in_class k) (map in_class ks) c) [
     | inl e ↦ (let x : absent ≡ in_class k = e in cc)
     | inr d ↦ let r = in_map in_class ks (in_class k) d in subst (Contains ks) (inner r.0 k r.2) r.1
@@ -441,7 +451,7 @@ module _ (q : Problem) where
       by : (x : Option Dependency) → Contains (alone_causes q o i k x) c → Contains (lead_causes q o i k x) c
       by None h = absurd (in_none c h)
       by (Some d) h = Contains-append_left (alone_causes q o i k (Some d))
-          (flat_map (newest_above q o i k d) (dep_classes q d)) c h
+          (each_from (newest_if q o i k d) 0 (owner_brings q o).dependencies) c h
   first_listed (feat name k f) s c h = absurd (in_none c h)
   first_listed (ask name v i g) s c h = absurd (in_none c h)
 

@@ -1,10 +1,12 @@
 -- The first term of an instance holds where the instance is broken, and at most one of its terms has absent among its
 -- states.
-use Rattle.std.proofs.Common.{◌≡◌, List, [], ◌∷◌, Bool, true, ◌&&◌, not, Option, Some, None, nat_eq, sym, ◌∙◌, inl, inr}
+use Rattle.std.proofs.Common.{◌≡◌, ℕ, List, [], ◌∷◌, Bool, true, ◌&&◌, not, Contains, Option, Some, None, nat_eq, sym, ◌∙◌}
+use Rattle.std.proofs.Common.{inl, inr, subst}
 use Rattle.model.specs.Summary.{Dependency, dependency_feature}
 use Rattle.model.specs.Content.{Problem}
 use Rattle.model.specs.Optional.{passes}
-use Rattle.model.specs.Vertices.{Owner, the_root, version_of, Vertex, State}
+use Rattle.model.specs.Selection.{Class}
+use Rattle.model.specs.Vertices.{Owner, the_root, version_of, Vertex, dep, State, in_class}
 use Rattle.model.specs.Axioms.{Term, HasOneOf, IsBroken, owner_holds}
 use Rattle.model.proofs.Same.{both}
 use Rattle.model.proofs.Spaces.{state_from}
@@ -14,7 +16,7 @@ use Rattle.refutations.specs.Causes.{of_enabling, of_asking, of_newest, of_weak,
 use Rattle.refutations.specs.Causes.{has_class, some_entry, lists_feature, is_overtaken, is_weak_on, is_cause}
 use Rattle.refutations.specs.Causes.{terms_with, terms_of_cause}
 use Rattle.refutations.proofs.Named.{passes-is}
-use Rattle.numbering.specs.Pairs.{Pair, owner_pair, first_pair}
+use Rattle.numbering.specs.Pairs.{Pair, owner_pair, first_pair, pairs_of}
 
 module _ (q : Problem) (state : Vertex → State) where
   abbrev pub Has : Vertex → State → Type 0
@@ -58,3 +60,38 @@ module _ (q : Problem) (state : Vertex → State) where
       t).1 (λ d b. one_state _ _ b.0) b
   first_holds (of_weak name v f g i k) t b =
       with_first _ _ (is_weak_on q name v f g k) (dependency_at q (version_of name v) i) t (λ d b. one_state _ _ b.0) b
+
+  -- and so do all its pairs
+  second_holds : (o : Owner) (i j : ℕ) (k m : Class) → is_cause q (of_newest o i j k m) ≡ true
+      → IsBroken Has (terms_of_cause q (of_newest o i j k m)) → Holds (dep o j, in_class m)
+  second_holds o i j k m t b =
+      with_first _ _ (λ d. passes (is_overtaken q k m d) (dependency_at q o j)) (dependency_at q o i)
+      (both (not (nat_eq i j)) (passes (λ d. passes (is_overtaken q k m d) (dependency_at q o j)) (dependency_at q o i))
+      t).1 (λ d b. one_state _ _ (b.1).0) b
+
+  alone_holds : (c : Cause) → Holds (first_pair c) → (p : Pair) → Contains (first_pair c ∷ []) p → Holds p
+  alone_holds c h p there = elim (in_cons (first_pair c) p [] there) [
+    | inl e ↦ subst Holds e h
+    | inr r ↦ absurd (in_none p r)
+  ]
+
+  pub pairs_hold : (c : Cause) → is_cause q c ≡ true → IsBroken Has (terms_of_cause q c) → (p : Pair)
+      → Contains (pairs_of c) p → Holds p
+  pairs_hold of_root t b p there = alone_holds of_root (first_holds of_root t b) p there
+  pairs_hold (of_need o i) t b p there = alone_holds (of_need o i) (first_holds (of_need o i) t b) p there
+  pairs_hold (of_target o i k) t b p there = alone_holds (of_target o i k) (first_holds (of_target o i k) t b) p there
+  pairs_hold (of_feature n k f) t b p there = alone_holds (of_feature n k f) (first_holds (of_feature n k f) t b) p there
+  pairs_hold (of_list o i k g) t b p there = alone_holds (of_list o i k g) (first_holds (of_list o i k g) t b) p there
+  pairs_hold (of_ask n v i g k) t b p there = alone_holds (of_ask n v i g k) (first_holds (of_ask n v i g k) t b) p there
+  pairs_hold (of_entry n v f g) t b p there = alone_holds (of_entry n v f g) (first_holds (of_entry n v f g) t b) p there
+  pairs_hold (of_enabling n v f e i) t b p there = alone_holds (of_enabling n v f e i) (first_holds (of_enabling n v f e i) t b) p there
+  pairs_hold (of_asking n v f g i) t b p there = alone_holds (of_asking n v f g i) (first_holds (of_asking n v f g i) t b) p there
+  pairs_hold (of_newest o i j k m) t b p there =
+      elim (in_cons (dep o i, in_class k) p ((dep o j, in_class m) ∷ []) there) [
+        | inl e ↦ subst Holds e (first_holds (of_newest o i j k m) t b)
+        | inr r ↦ elim (in_cons (dep o j, in_class m) p [] r) [
+          | inl e ↦ subst Holds e (second_holds o i j k m t b)
+          | inr n ↦ absurd (in_none p n)
+        ]
+      ]
+  pairs_hold (of_weak n v f g i k) t b p there = alone_holds (of_weak n v f g i k) (first_holds (of_weak n v f g i k) t b) p there

@@ -1,5 +1,5 @@
 -- What is kept stays right, where one more is kept.
-use Rattle.std.proofs.Common.{◌≡◌, ℕ, Bool, true, false, cond, List, Some, Result, Ok, Err, OnOk, OnErr, Vec, map, refl}
+use Rattle.std.proofs.Common.{◌≡◌, Bool, true, false, cond, List, Some, Result, Ok, Err, OnOk, OnErr, Vec, map, refl}
 use Rattle.std.proofs.Common.{sym, ap, ap₂, ◌∙◌, subst}
 use Rattle.std.specs.HashMap.{HashMap, IsUnchanged, Updates, get}
 use Rattle.std.specs.Map.{lookup}
@@ -14,11 +14,8 @@ use Rattle.model.specs.Vertices.{owner_brings}
 use Rattle.model.proofs.Same.{both, owner-same, text-same}
 use Rattle.vertices.specs.inner.RefViews.{owner_ref_view}
 use Rattle.vertices.specs.declared.vertex.OwnerRef.{OwnerRef}
-use Rattle.numbering.specs.inner.Called.{numbered_from}
-use Rattle.numbering.specs.inner.Indexed.{AreBrought, AreByClass, AreThere, IsBrought, OwnerKey, same_owner_key}
-use Rattle.numbering.specs.inner.Indexed.{same_ref}
+use Rattle.numbering.specs.inner.Indexed.{AreBrought, IsBrought, same_ref}
 use Rattle.numbering.specs.inner.Matched.{AreMatched, Ask, classes_asked, same_ask}
-use Rattle.numbering.specs.inner.OnPackage.{on_package}
 use Rattle.numbering.proofs.Requirements.{requirement-same}
 
 -- ---- of any values that are right for their keys
@@ -70,20 +67,3 @@ pub put_brought : (q : Problem) {S X E : Type 0} (m after : HashMap OwnerRef (Li
 put_brought q m after o ds r u e are one =
     kept_after same_ref (IsBrought q) (λ o p ds same is. is ∙ ap (λ w. (owner_brings q w).dependencies)
     (owner-same (owner_ref_view o) (owner_ref_view p) same)) m after o ds r u e are one
-
--- ---- of dependencies on one package
-
-place-alike : (q : Problem) (x y : OwnerKey) (b : Problem × List (ℕ × Dependency)) → same_owner_key x y ≡ true
-    → AreThere q x b → AreThere q y b
-place-alike q x y b same is =
-    let e = both (same_ref x.0 y.0) _ same in
-    is ∙ ap₂ (λ o n. (q, on_package n (numbered_from 0 (owner_brings q o).dependencies)))
-    (owner-same (owner_ref_view x.0) (owner_ref_view y.0) e.0) (text-same x.1.now y.1.now e.1)
-
-pub put_place : (q : Problem) {S X E : Type 0}
-    (m after : HashMap OwnerKey (Problem × List (ℕ × Dependency)) S) (x : OwnerKey)
-    (b : Problem × List (ℕ × Dependency)) (r : Result X E)
-    → OnOk r (Updates same_owner_key m after x (Some b)) → OnErr r (IsUnchanged m after) → AreByClass q m
-    → AreThere q x b → AreByClass q after
-put_place q m after x b r u e are one =
-    kept_after same_owner_key (AreThere q) (place-alike q) m after x b r u e are one

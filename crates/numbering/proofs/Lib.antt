@@ -14,9 +14,10 @@ pub mod Grouped
 pub mod Putting
 pub mod Each
 pub mod CausesLaws
+pub mod Overtaken
+pub mod NotedLaws
 pub mod SameCauses
 pub mod LeadLaws
-pub mod ByClassLaws
 pub mod ListLaws
 pub mod CalledLaws
 pub mod OnPackageLaws

@@ -1,6 +1,7 @@
 -- A value that is put behind those of its key is there, and no other key has it.
 use Rattle.std.proofs.Common.{◌≡◌, ℕ, List, [], ◌∷◌, ◌++◌, Bool, true, false, cond, Option, Some, None, Vec, map, refl}
-use Rattle.std.proofs.Common.{sym, ap, ◌∙◌, unwrap_or}
+use Rattle.std.proofs.Common.{Result, Ok, Err, sym, ap, ◌∙◌, unwrap_or}
+use Rattle.std.specs.Prelude.{OnOk}
 use Rattle.std.specs.Borrow.{Bor}
 use Rattle.std.specs.HashMap.{HashMap, get}
 use Rattle.std.specs.Map.{lookup}
@@ -10,7 +11,7 @@ use Rattle.model.specs.Summary.{same_text}
 use Rattle.model.proofs.Same.{text-same}
 use Rattle.numbering.specs.inner.Lists.{Puts, if_some, listed_in, same_name}
 
-some_or : {T : Type 0} (o : Option (Vec T Global)) (none : Vec T Global) → none.items ≡ []
+pub some_or : {T : Type 0} (o : Option (Vec T Global)) (none : Vec T Global) → none.items ≡ []
     → if_some o ≡ (unwrap_or o none).items
 some_or None none empty = sym empty
 some_or (Some values) none empty = refl
@@ -48,3 +49,8 @@ put_views view m new text value put x =
     by : (b : Bool) → map view (cond b (value ∷ []) []) ≡ cond b (view value ∷ []) []
     by true = refl
     by false = refl
+
+-- what holds anyway
+pub on_ok_always : {A E P : Type 0} (r : Result A E) → P → OnOk r P
+on_ok_always (Ok a) p = p
+on_ok_always (Err e) p = tt

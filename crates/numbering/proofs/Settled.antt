@@ -19,10 +19,9 @@ use Rattle.model.proofs.Places.{some_at, got_in}
 use Rattle.refutations.specs.Causes.{terms_of_cause}
 use Rattle.refutations.proofs.CauseLaws.{instance_cause}
 use Rattle.numbering.specs.Numberings.{Numbering, IsNumbering, number_in, members_at, Says}
-use Rattle.numbering.specs.Pairs.{first_pair}
 use Rattle.numbering.specs.inner.Assignments.{state_if, state_of, IsSettled}
 use Rattle.numbering.proofs.Places.{has_map, number_at, number_of}
-use Rattle.numbering.proofs.Firsts.{first_holds}
+use Rattle.numbering.proofs.Firsts.{pairs_hold}
 
 -- what breaks a list of terms has a state of each of them
 broken_at : (state : Vertex → State) (ts : List Term) → IsBroken (λ v s. state v ≡ s) ts
@@ -84,8 +83,7 @@ module _ (q : Problem) (vs : Numbering) (es : List EntryView) (x : Assignment) (
       let c = instance_cause q k ts instance in
       let b : IsBroken (λ v s. state_of q vs x v ≡ s) (terms_of_cause q c.cause) =
       subst (λ us. IsBroken (λ v s. state_of q vs x v ≡ s) us) (sym c.terms) broken in
-      let holds = first_holds q (state_of q vs x) c.cause c.there b in
-      let r = settled.added (first_pair c.cause).0 (first_pair c.cause).1 holds c.cause c.there refl in
+      let r = settled.added c.cause c.there (pairs_hold q (state_of q vs x) c.cause c.there b) in
       settled.none_broken r.0 r.1 (breaks (entry es r.0).terms (terms_of_cause q c.cause) r.2 b)
 
   pub is_unbroken : IsUnbroken q (state_of q vs x)

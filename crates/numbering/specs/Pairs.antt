@@ -34,6 +34,12 @@ first_pair (of_asking name v f g i) = owner_pair (version_of name v)
 first_pair (of_newest o i j k m) = (dep o i, in_class k)
 first_pair (of_weak name v f g i k) = owner_pair (version_of name v)
 
+-- the pairs that an instance names with one state each of those for which it is kept back: it isn't broken before all
+-- of them hold
+abbrev pub pairs_of : Cause → List Pair
+pairs_of (of_newest o i j k m) = (dep o i, in_class k) ∷ (dep o j, in_class m) ∷ []
+pairs_of c = first_pair c ∷ []
+
 -- a cause whose first term is that pair
 abbrev pub IsCauseAt : Problem → Pair → Cause → Type 0
 IsCauseAt q p c = (is_cause q c ≡ true) × (first_pair c ≡ p)
@@ -69,10 +75,10 @@ pub record IsGivenAt (q : Problem) (vs : Numbering) (p : Pair) (xs : List Given)
 abbrev pub IsFirstGiven : Problem → Numbering → Pair → List Given → Type 0
 IsFirstGiven q vs p xs = AreGiven q vs (first_causes q p.0 p.1) xs
 
--- instances of causes of the pair, whichever
+-- instances of causes that name the pair, whichever
 pub record AreOfPair (q : Problem) (vs : Numbering) (p : Pair) (xs : List Given) : Type 0 where
   pub causes : List Cause
-  pub are : (c : Cause) → Contains causes c → IsCauseAt q p c
+  pub are : (c : Cause) → Contains causes c → (is_cause q c ≡ true) × Contains (pairs_of c) p
   pub given : AreGiven q vs causes xs
 
 -- the vertices of a cause's instance, those of full terms too

@@ -5,7 +5,7 @@ pub mod Absences
 pub mod Finals
 pub mod KnownProblem
 pub mod TestedTerms
-pub mod ByClass
+pub mod AskedFor
 pub mod Lists
 pub mod Called
 pub mod OnPackage

@@ -1,29 +1,23 @@
 //! The causes of the instances that are added once a dependency leads to a class.
 
-ghost use Rattle.std.specs.Prelude.{◌≡◌, ◌++◌, ◌∷◌, [], List, Some, IfOk, OnOk, map, nat_eq, codes, if◌then◌else◌};
-ghost use Rattle.std.specs.List.{flat_map, list_all};
+ghost use Rattle.std.specs.Prelude.{◌≡◌, ◌++◌, ◌∷◌, [], Some, OnOk, map, codes, if◌then◌else◌};
 ghost use Rattle.classes.specs.Classes.{class_view};
-ghost use Rattle.features.specs.Views.{dependency_view, dependency_views};
+ghost use Rattle.features.specs.Views.{dependency_view};
 ghost use Rattle.model.specs.Summary.{asked_of_target};
-ghost use Rattle.model.specs.Vertices.{dep_classes};
 ghost use Rattle.refutations.specs.Causes.{dependency_at, of_list};
 ghost use Rattle.numbering.specs.inner.Asked.{asked_so, features_of};
-ghost use Rattle.numbering.specs.inner.Called.{numbered_from, numbered_view, numbered_views};
 ghost use Rattle.numbering.specs.GivenViews.{cause_views};
-ghost use Rattle.numbering.specs.inner.CausesAt.{alone_causes, lead_causes, newest_above, root_asked};
-ghost use Rattle.numbering.specs.inner.ByClass.{newest_among, newest_with};
-ghost use Rattle.numbering.specs.inner.OnPackage.{is_other, others_on};
+ghost use Rattle.numbering.specs.inner.AskedFor.{asked_leads, noted_views};
+ghost use Rattle.numbering.specs.inner.CausesAt.{alone_causes, lead_causes, root_asked};
 ghost use Rattle.numbering.specs.inner.KnownProblem.{KnowsDefault, problem};
 ghost use Rattle.vertices.specs.inner.RefViews.{owner_ref_view};
 
 use crate::asked::{Asked, Wanted};
-use crate::by_class::ByClass;
-use crate::called::Numbered;
 use crate::known_problem::KnownProblem;
-use crate::owners::{dependencies_of, dependency_at};
-use crate::possible_classes::classes_of;
+use crate::newest::{put_both, put_newest};
+use crate::owners::dependency_at;
 use classes::Class;
-use features::{Dependency, DependencyParts, FeatureName, PackageName};
+use features::{DependencyParts, FeatureName};
 use lookups::Cause;
 use std::alloc::{AllocError, Global};
 use vertices::OwnerRef;
@@ -54,7 +48,7 @@ pub(crate) fn put_lead<'a>(
     }
 }
 
-/// Its target, the features that it asks for by its list, and the dependencies of the same package that may lead to a
+/// Its target, the features that it asks for by its list, and the dependencies on the same package that may lead to a
 /// higher class.
 fn put_leading<'a>(
     alloc: Global,
@@ -70,6 +64,44 @@ fn put_leading<'a>(
 {
     put_alone(alloc, known, causes, lead, dependency)?;
     put_newest(alloc, known, causes, lead, dependency)
+}
+
+/// What a dependency gives that leads to a class, with those alone that were asked for before: nothing where it isn't
+/// there.
+pub(crate) fn put_asked_lead<'a>(
+    alloc: Global,
+    known: &KnownProblem<'a>,
+    those: &[(usize, Class)],
+    causes: &mut Vec<Cause<'a>>,
+    lead: Lead<'a>,
+) -> Result<(), AllocError>
+    requires default { KnowsDefault known.now }
+    ensures { OnOk result (cause_views causes.new.items ≡ cause_views causes.old.items ++ asked_leads
+        (problem known.now) (noted_views those.now) (owner_ref_view lead.entry.owner) lead.entry.number
+        (class_view lead.entry.class)
+        (dependency_at (problem known.now) (owner_ref_view lead.entry.owner) lead.entry.number)) }
+{
+    match dependency_at(known, &lead.owner, lead.number) {
+        Some(dependency) => put_asked_leading(alloc, known, those, causes, lead, dependency),
+        None => Ok(()),
+    }
+}
+
+fn put_asked_leading<'a>(
+    alloc: Global,
+    known: &KnownProblem<'a>,
+    those: &[(usize, Class)],
+    causes: &mut Vec<Cause<'a>>,
+    lead: Lead<'a>,
+    dependency: &'a DependencyParts,
+) -> Result<(), AllocError>
+    requires default { KnowsDefault known.now }
+    ensures { OnOk result (cause_views causes.new.items ≡ cause_views causes.old.items
+        ++ asked_leads (problem known.now) (noted_views those.now) (owner_ref_view lead.entry.owner)
+        lead.entry.number (class_view lead.entry.class) (Some (dependency_view dependency.entry.now))) }
+{
+    put_alone(alloc, known, causes, lead, dependency)?;
+    put_both(known, those, causes, lead)
 }
 
 /// What a dependency gives that leads to a class without another dependency: nothing where it isn't there.
@@ -238,207 +270,6 @@ fn put_each_asked<'a>(
 {
     'features: for wanted in features.iter() {
         causes.push(Cause::List(lead.owner, lead.number, lead.class, wanted.feature))?;
-    }
-    Ok(())
-}
-
-/// The dependencies on the same package that may lead to a higher class, to which this one may lead too: of the others
-/// of its owner those are looked at that may lead to one of its classes.
-fn put_newest<'a>(
-    alloc: Global,
-    known: &KnownProblem<'a>,
-    causes: &mut Vec<Cause<'a>>,
-    lead: Lead<'a>,
-    dependency: &'a DependencyParts,
-) -> Result<(), AllocError>
-    ensures { OnOk result (cause_views causes.new.items ≡ cause_views causes.old.items
-        ++ flat_map (newest_above (problem known.now) (owner_ref_view lead.entry.owner) lead.entry.number
-        (class_view lead.entry.class) (dependency_view dependency.entry.now))
-        (dep_classes (problem known.now) (dependency_view dependency.entry.now))) }
-{
-    match known.matched.by_class(&lead.owner, &dependency.real_name) {
-        Some(those) => put_newest_of(alloc, known, causes, lead, dependency, those),
-        None => put_newest_anew(alloc, known, causes, lead, dependency),
-    }
-}
-
-/// Where the dependencies on its package aren't kept by their classes.
-fn put_newest_anew<'a>(
-    alloc: Global,
-    known: &KnownProblem<'a>,
-    causes: &mut Vec<Cause<'a>>,
-    lead: Lead<'a>,
-    dependency: &'a DependencyParts,
-) -> Result<(), AllocError>
-    ensures { OnOk result (cause_views causes.new.items ≡ cause_views causes.old.items
-        ++ flat_map (newest_above (problem known.now) (owner_ref_view lead.entry.owner) lead.entry.number
-        (class_view lead.entry.class) (dependency_view dependency.entry.now))
-        (dep_classes (problem known.now) (dependency_view dependency.entry.now))) }
-{
-    let name = dependency.real_name.as_str();
-    match known.matched.on_package(&lead.owner, name) {
-        Some(those) => put_newest_among(alloc, known, causes, lead, dependency, those),
-        None => {
-            let all = dependencies_of(known, &lead.owner);
-            let others = others_on(alloc, lead.number, &dependency.real_name, all)?;
-            put_newest_among(alloc, known, causes, lead, dependency, others.as_slice())
-        }
-    }
-}
-
-/// Those of these dependencies: none where no other one is among them.
-fn put_newest_among<'a>(
-    alloc: Global,
-    known: &KnownProblem<'a>,
-    causes: &mut Vec<Cause<'a>>,
-    lead: Lead<'a>,
-    dependency: &'a DependencyParts,
-    others: &[Numbered<'a>],
-) -> Result<(), AllocError>
-    ensures { OnOk result (cause_views causes.new.items ≡ cause_views causes.old.items
-        ++ flat_map (newest_among (problem known.now) (owner_ref_view lead.entry.owner) lead.entry.number
-        (class_view lead.entry.class) (numbered_views others.now))
-        (dep_classes (problem known.now) (dependency_view dependency.entry.now))) }
-{
-    if is_alone(lead.number, others) {
-        return Ok(());
-    }
-    let those = ByClass::of(alloc, &known.matched, others)?;
-    put_newest_of(alloc, known, causes, lead, dependency, &those)
-}
-
-/// Whether no other dependency is among these than the one with this number.
-fn is_alone(number: usize, others: &[Numbered<'_>]) -> bool
-    ensures { result ≡ list_all (λ p. nat_eq number p.0) (numbered_views others.now) }
-{
-    others.iter().all(|other| number == other.number)
-}
-
-/// The other dependencies on the package of the one with this number.
-fn others_on<'a>(
-    alloc: Global,
-    number: usize,
-    name: &PackageName,
-    dependencies: &'a [Dependency],
-) -> Result<Vec<Numbered<'a>>, AllocError>
-    ensures { IfOk result (λ v. numbered_views v.items
-        ≡ others_on number name.now (numbered_from 0 (dependency_views dependencies.entry.now))) }
-{
-    let mut others = Vec::new(alloc);
-    'dependencies: for (place, dependency) in dependencies.iter().enumerate() {
-        let one = Numbered {
-            number: place,
-            dependency,
-        };
-        put_if_other(&mut others, number, name, one)?;
-    }
-    Ok(others)
-}
-
-fn put_if_other<'a>(
-    others: &mut Vec<Numbered<'a>>,
-    number: usize,
-    name: &PackageName,
-    one: Numbered<'a>,
-) -> Result<(), AllocError>
-    ensures { OnOk result (numbered_views others.new.items
-        ≡ numbered_views others.old.items ++ others_on number name.now (numbered_view one.entry ∷ [])) }
-{
-    if is_other(number, name, one.number, one.dependency) {
-        others.push(one)?;
-    }
-    Ok(())
-}
-
-/// Whether a dependency is another one than that of the number, on the same package.
-fn is_other(number: usize, name: &PackageName, place: usize, other: &DependencyParts) -> bool
-    ensures { result ≡ is_other number name.now place (dependency_view other.now) }
-{
-    number != place && *name == other.real_name
-}
-
-/// Those of the dependencies that may lead to a class of this one.
-fn put_newest_of<'a>(
-    alloc: Global,
-    known: &KnownProblem<'a>,
-    causes: &mut Vec<Cause<'a>>,
-    lead: Lead<'a>,
-    dependency: &'a DependencyParts,
-    those: &ByClass<'a>,
-) -> Result<(), AllocError>
-    ensures { OnOk result (cause_views causes.new.items ≡ cause_views causes.old.items
-        ++ flat_map (newest_among (those.now).0 (owner_ref_view lead.entry.owner) lead.entry.number
-        (class_view lead.entry.class) (those.now).1)
-        (dep_classes (problem known.now) (dependency_view dependency.entry.now))) }
-{
-    let classes = classes_of(alloc, known, dependency)?;
-    put_classes(causes, lead, those, classes.as_slice())
-}
-
-fn put_classes<'a>(
-    causes: &mut Vec<Cause<'a>>,
-    lead: Lead<'a>,
-    those: &ByClass<'a>,
-    classes: &[Class],
-) -> Result<(), AllocError>
-    ensures { OnOk result (cause_views causes.new.items ≡ cause_views causes.old.items
-        ++ flat_map (newest_among (those.now).0 (owner_ref_view lead.entry.owner) lead.entry.number
-        (class_view lead.entry.class) (those.now).1) (map class_view classes.now)) }
-{
-    'classes: for class in classes.iter() {
-        put_class(causes, lead, those, *class)?;
-    }
-    Ok(())
-}
-
-/// Those that may lead to this class, if it is higher.
-fn put_class<'a>(
-    causes: &mut Vec<Cause<'a>>,
-    lead: Lead<'a>,
-    those: &ByClass<'a>,
-    class: Class,
-) -> Result<(), AllocError>
-    ensures { OnOk result (cause_views causes.new.items ≡ cause_views causes.old.items
-        ++ newest_among (those.now).0 (owner_ref_view lead.entry.owner) lead.entry.number
-        (class_view lead.entry.class) (those.now).1 (class_view class)) }
-{
-    if !lead.class.is_lower(class) {
-        return Ok(());
-    }
-    match those.those(class) {
-        Some(numbers) => put_numbers(causes, lead, class, numbers),
-        None => Ok(()),
-    }
-}
-
-fn put_numbers<'a>(
-    causes: &mut Vec<Cause<'a>>,
-    lead: Lead<'a>,
-    class: Class,
-    numbers: &[usize],
-) -> Result<(), AllocError>
-    ensures { OnOk result (cause_views causes.new.items ≡ cause_views causes.old.items
-        ++ flat_map (newest_with (owner_ref_view lead.entry.owner) lead.entry.number (class_view lead.entry.class)
-        (class_view class)) numbers.now) }
-{
-    'numbers: for number in numbers.iter() {
-        put_number(causes, lead, class, *number)?;
-    }
-    Ok(())
-}
-
-fn put_number<'a>(
-    causes: &mut Vec<Cause<'a>>,
-    lead: Lead<'a>,
-    class: Class,
-    number: usize,
-) -> Result<(), AllocError>
-    ensures { OnOk result (cause_views causes.new.items ≡ cause_views causes.old.items
-        ++ newest_with (owner_ref_view lead.entry.owner) lead.entry.number (class_view lead.entry.class)
-        (class_view class) number) }
-{
-    if lead.number != number {
-        causes.push(Cause::Newest(lead.owner, lead.number, number, lead.class, class))?;
     }
     Ok(())
 }

@@ -8,10 +8,14 @@
 //! What is hard is to bring few axioms and to miss none. Each instance has a first term with just one state
 //! (`first_pair`, `specs/Pairs`), and belongs to that pair of a vertex and a state: while the vertex doesn't have the
 //! state, the instance isn't broken. So `axioms_at` gives the instances of one pair, and only those of pairs that stand
-//! alone are ever needed. What it gives is found from what the pair's vertex names, with no pass over all owners. What
-//! requirements match is kept by name and requirement (`matched.rt`), so that none is matched twice against one name,
-//! and what owners bring is found by name (`called.rt`, `indexed.rt`) where a pass over it would be made for each of
-//! its parts; nothing that is stated here rests on what is kept.
+//! alone are ever needed. An instance that says which of two dependencies in classes overtakes the other has two such
+//! terms; so a search, which asks for one pair after another, needs it only once both were asked for (`pairs_of`,
+//! `next_axioms_at`). Two dependencies with n classes have n · n of these, and a search comes to few.
+//!
+//! What is given is found from what the pair's vertex names, with no pass over all owners. What requirements match is
+//! kept by name and requirement (`matched.rt`), so that none is matched twice against one name, and what owners bring
+//! is found by name (`called.rt`, `indexed.rt`) where a pass over it would be made for each of its parts; nothing that
+//! is stated here rests on what is kept.
 //!
 //! To number all vertices first costs a fifth of loading. Which versions of a class match isn't kept, as the terms over
 //! them cost as much; what owners bring is found by name only for an owner with more than 32 dependencies, or with two
@@ -24,7 +28,6 @@
 #![tactic(auto)]
 
 mod asked;
-mod by_class;
 mod called;
 mod causes;
 mod indexed;
@@ -34,6 +37,8 @@ mod leading;
 mod lists;
 mod making;
 mod matched;
+mod newest;
+mod noted;
 mod on_package;
 mod owners;
 mod pair_axioms;
@@ -72,8 +77,9 @@ pub use called::{ByName, Numbered};
 pub use instances::instance;
 pub use known_problem::KnownProblem;
 pub use matched::Matched;
+pub use noted::Noted;
 pub use owners::dependency_at;
-pub use pair_axioms::{axioms_at, axioms_of, first_axioms_at};
+pub use pair_axioms::{axioms_at, axioms_of, first_axioms_at, next_axioms_at};
 pub use pair_causes::causes_at;
 pub use possible_classes::classes_of;
 pub use spaces::{space_at, space_of, spaces_are_small};

@@ -7,13 +7,11 @@ ghost use Rattle.lookups.specs.inner.Views.{problem_view};
 ghost use Rattle.model.specs.Vertices.{dep_classes, owner_brings};
 ghost use Rattle.vertices.specs.inner.RefViews.{owner_ref_view};
 ghost use Rattle.numbering.specs.inner.Called.{numbered_from, numbered_views};
-ghost use Rattle.numbering.specs.inner.Indexed.{AreByClass};
 ghost use Rattle.numbering.specs.inner.IndexedViews.{problem_indexed};
 ghost use Rattle.numbering.specs.inner.Matched.{AreMatched};
 ghost use Rattle.numbering.specs.inner.OnPackage.{on_package};
 
 use crate::asked::Asked;
-use crate::by_class::ByClass;
 use crate::called::Numbered;
 use crate::indexed::Indexed;
 use crate::table::Table;
@@ -27,8 +25,7 @@ use std::alloc::{AllocError, Global};
 use std::collections::HashMap;
 use vertices::{OwnerRef, VertexRef};
 
-/// By name and requirement, the classes of the candidates that are matched; and what owners bring, found by name, and
-/// by class where several dependencies of an owner are on one package.
+/// By name and requirement, the classes of the candidates that are matched; and what owners bring, found by name.
 ///
 /// Nothing but time rests on what is kept: what isn't is matched where it is asked for.
 #[derive(Drop)]
@@ -36,10 +33,8 @@ pub struct Matched<'a> {
     pub(crate) problem: Problem<'a>,
     pub(crate) classes: HashMap<(&'a PackageName, &'a VersionReq), Vec<Class>>,
     indexed: Indexed<'a>,
-    pub(crate) by_class: HashMap<(OwnerRef<'a>, &'a PackageName), ByClass<'a>>,
     ghost are_matched: { AreMatched (problem_view problem) classes },
     ghost same_problem: { problem_indexed indexed ≡ problem_view problem },
-    ghost are_by_class: { AreByClass (problem_view problem) by_class },
 }
 
 impl<'a> Matched<'a> {
@@ -57,7 +52,6 @@ impl<'a> Matched<'a> {
             },
             classes: HashMap::new(alloc),
             indexed: Indexed::new(alloc, manifest, catalogue),
-            by_class: HashMap::new(alloc),
         }
     }
 
@@ -104,32 +98,16 @@ impl<'a> Matched<'a> {
         self.indexed.on_package(owner, name)
     }
 
-    /// The dependencies of the owner on the package by the classes that they may lead to, if they are kept.
-    pub(crate) fn by_class(
-        &self,
-        owner: &OwnerRef<'a>,
-        name: &'a PackageName,
-    ) -> Option<&ByClass<'a>>
-        ensures { IfSome result (λ b. b.now ≡ (
-          problem_of self.now,
-          on_package name.entry.now
-              (numbered_from 0 (owner_brings (problem_of self.now) (owner_ref_view owner.now)).dependencies),
-        )) }
-    {
-        let place = (*owner, name);
-        match self.by_class.get(&place) {
-            Some(those) => Some(those),
-            None => None,
-        }
-    }
-
     /// Whether the vertex of this number is a dependency whose owner has another one on its package.
     pub fn has_others(&self, table: &Table<'a>, number: usize) -> bool {
         let Some(VertexRef::Dependency(owner, place)) = table.vertex(number) else {
             return false;
         };
-        match dependencies_of(&self.problem, &owner).get(place) {
-            Some(dependency) => self.by_class(&owner, &dependency.real_name).is_some(),
+        let Some(dependency) = dependencies_of(&self.problem, &owner).get(place) else {
+            return false;
+        };
+        match self.on_package(&owner, dependency.real_name.as_str()) {
+            Some(those) => those.len() > 1,
             None => false,
         }
     }
@@ -187,45 +165,7 @@ impl<'a> Matched<'a> {
         let problem = self.problem;
         let dependencies = dependencies_of(&problem, &owner);
         self.keep_each(alloc, dependencies)?;
-        self.indexed.keep(alloc, owner)?;
-        self.keep_packages(alloc, owner, dependencies)
-    }
-
-    /// Puts by their classes those that are on one package with others.
-    fn keep_packages(
-        &mut self,
-        alloc: Global,
-        owner: OwnerRef<'a>,
-        dependencies: &'a [Dependency],
-    ) -> Result<(), AllocError>
-        ensures { problem_of self.new ≡ problem_of self.old }
-    {
-        'dependencies: for dependency in dependencies.iter() {
-            self.keep_package(alloc, owner, &dependency.real_name)?;
-        }
-        Ok(())
-    }
-
-    fn keep_package(
-        &mut self,
-        alloc: Global,
-        owner: OwnerRef<'a>,
-        name: &'a PackageName,
-    ) -> Result<(), AllocError>
-        ensures { problem_of self.new ≡ problem_of self.old }
-    {
-        if self.by_class(&owner, name).is_some() {
-            return Ok(());
-        }
-        let Some(those) = self.on_package(&owner, name.as_str()) else {
-            return Ok(());
-        };
-        if those.len() < 2 {
-            return Ok(());
-        }
-        let by_class = ByClass::of(alloc, self, those)?;
-        self.by_class.insert((owner, name), by_class)?;
-        Ok(())
+        self.indexed.keep(alloc, owner)
     }
 
     fn keep_each(&mut self, alloc: Global, dependencies: &'a [Dependency]) -> Result<(), AllocError>

@@ -1,11 +1,12 @@
 //! The instances that are added once a vertex has a state.
 
-ghost use Rattle.std.specs.Prelude.{◌≡◌, ◌<◌, ◌++◌, ◌∷◌, [], true, Contains, List, Some, IfOk, OnOk, length, slice_get};
+ghost use Rattle.std.specs.Prelude.{◌≡◌, ◌<◌, ◌++◌, ◌∷◌, [], true, Contains, List, Some, IfOk, OnOk, length, map, slice_get};
 ghost use Rattle.std.specs.List.{AllByRecursion};
 ghost use Rattle.model.specs.Axioms.{IsVertex};
 ghost use Rattle.model.specs.Vertices.{Vertex, space};
 ghost use Rattle.refutations.specs.Causes as causes;
 ghost use Rattle.refutations.specs.Causes.{is_cause};
+ghost use Rattle.numbering.specs.inner.AskedFor.{IsGivenNext, IsNoted, KeepsNoted};
 ghost use Rattle.numbering.specs.inner.Assignments.{state_at};
 ghost use Rattle.numbering.specs.GivenViews.{cause_views, given_views};
 ghost use Rattle.lookups.specs.inner.CauseViews.{cause_view};
@@ -16,7 +17,8 @@ ghost use Rattle.vertices.specs.inner.RefViews.{state_ref_view, vertex_ref_view}
 
 use crate::instances::instance;
 use crate::known_problem::KnownProblem;
-use crate::pair_causes::{causes_at, first_causes_at};
+use crate::noted::Noted;
+use crate::pair_causes::{causes_asked, causes_at, first_causes_at};
 use crate::states::state_at;
 use crate::table::Table;
 use incompatibilities::Incompatibility;
@@ -73,6 +75,69 @@ pub fn first_axioms_at<'a, S: States + Drop>(
         Some(vertex) => first_axioms(alloc, known, table, vertex, state),
         None => Ok(Vec::new(alloc)),
     }
+}
+
+/// Of the same those that a search needs which asks for one pair after another, and notes each: of a dependency in a
+/// class, those that name another dependency in a class only where that pair was noted before, and then whichever of
+/// the two they begin with.
+pub fn next_axioms_at<'a, S: States + Drop>(
+    alloc: Global,
+    known: &KnownProblem<'a>,
+    table: &mut Table<'a>,
+    noted: &mut Noted<'a>,
+    number: usize,
+    state: usize,
+) -> Result<Vec<(Kind, Incompatibility<S>)>, AllocError>
+    requires default { KnowsDefault known.now }
+    requires numbering { IsNumbering (problem known.now) table.old }
+    requires state { (v : Vertex) → slice_get table.old number ≡ Some v
+        → state < length (space (problem known.now) v) }
+    ensures grown { IsGrown table.old table.new }
+    ensures numbering { IsNumbering (problem known.now) table.new }
+    ensures kept { KeepsNoted noted.old noted.new }
+    ensures noted { OnOk result ((v : Vertex) → slice_get table.old number ≡ Some v
+        → IsNoted (problem known.now) noted.new (v, state_at (problem known.now) v state)) }
+    ensures given { IfOk result (λ xs. (v : Vertex) → slice_get table.old number ≡ Some v → IsGivenNext
+        (problem known.now) table.new (IsNoted (problem known.now) noted.old)
+        (v, state_at (problem known.now) v state) (given_views S.tests xs.items)) }
+{
+    match table.vertex(number) {
+        Some(vertex) => next_axioms(alloc, known, table, noted, vertex, state),
+        None => Ok(Vec::new(alloc)),
+    }
+}
+
+/// The same of a vertex.
+fn next_axioms<'a, S: States + Drop>(
+    alloc: Global,
+    known: &KnownProblem<'a>,
+    table: &mut Table<'a>,
+    noted: &mut Noted<'a>,
+    vertex: VertexRef<'a>,
+    number: usize,
+) -> Result<Vec<(Kind, Incompatibility<S>)>, AllocError>
+    requires default { KnowsDefault known.now }
+    requires numbering { IsNumbering (problem known.now) table.old }
+    requires vertex { IsVertex (problem known.now) (vertex_ref_view vertex) }
+    requires state { number < length (space (problem known.now) (vertex_ref_view vertex)) }
+    ensures grown { IsGrown table.old table.new }
+    ensures numbering { IsNumbering (problem known.now) table.new }
+    ensures kept { KeepsNoted noted.old noted.new }
+    ensures noted { OnOk result (IsNoted (problem known.now) noted.new (
+      vertex_ref_view vertex.entry,
+      state_at (problem known.now) (vertex_ref_view vertex.entry) number,
+    )) }
+    ensures given { IfOk result
+        (λ xs. IsGivenNext (problem known.now) table.new (IsNoted (problem known.now) noted.old) (
+          vertex_ref_view vertex.entry,
+          state_at (problem known.now) (vertex_ref_view vertex.entry) number,
+        ) (given_views S.tests xs.items)) }
+{
+    let state = state_at(alloc, known, &vertex, number)?;
+    let those = noted.beside(alloc, known, vertex, state)?;
+    let causes = causes_asked(alloc, known, those.as_slice(), vertex, state)?;
+    noted.note(alloc, known, vertex, state)?;
+    instances(alloc, known, table, causes.as_slice())
 }
 
 /// The same of a vertex.

@@ -9,14 +9,15 @@ ghost use Rattle.refutations.specs.Causes.{of_ask};
 ghost use Rattle.refutations.specs.inner.Listed.{classes_at};
 ghost use Rattle.numbering.specs.GivenViews.{cause_views};
 ghost use Rattle.lookups.specs.inner.CauseViews.{cause_view};
-ghost use Rattle.numbering.specs.inner.CausesAt.{causes_at, first_causes};
+ghost use Rattle.numbering.specs.inner.AskedFor.{asked_causes, noted_views};
+ghost use Rattle.numbering.specs.inner.CausesAt.{causes_at, first_causes, with_causes};
 ghost use Rattle.numbering.specs.inner.KnownProblem.{KnowsDefault, problem};
 ghost use Rattle.numbering.specs.Pairs.{AreCausesAt};
-ghost use Rattle.vertices.specs.inner.RefViews.{state_ref_view, vertex_ref_view};
+ghost use Rattle.vertices.specs.inner.RefViews.{owner_ref_view, state_ref_view, vertex_ref_view};
 
 use crate::causes::{each_once, put_needs, put_version};
 use crate::known_problem::KnownProblem;
-use crate::leading::{Lead, put_lead, put_lead_alone};
+use crate::leading::{Lead, put_asked_lead, put_lead, put_lead_alone};
 use crate::owners::dependencies_of;
 use crate::possible_classes::classes_at;
 use classes::Class;
@@ -115,6 +116,76 @@ fn put_causes<'a>(
         StateRef::Present => put_present(alloc, known, causes, vertex),
         StateRef::Version(version) => put_chosen(alloc, known, causes, vertex, version),
         StateRef::Class(class) => put_in_class(alloc, known, causes, vertex, class),
+    }
+}
+
+/// The same, where those of a dependency that name another one are given with those alone that were asked for before.
+pub(crate) fn causes_asked<'a>(
+    alloc: Global,
+    known: &KnownProblem<'a>,
+    those: &[(usize, Class)],
+    vertex: VertexRef<'a>,
+    state: StateRef<'a>,
+) -> Result<IndexSet<Cause<'a>>, AllocError>
+    requires default { KnowsDefault known.now }
+    ensures { IfOk result (λ s. cause_views s.keys ≡ with_causes [] (asked_causes (problem known.now)
+        (noted_views those.now) (vertex_ref_view vertex.entry) (state_ref_view state.entry))) }
+{
+    let mut causes = Vec::new(alloc);
+    put_asked_causes(alloc, known, those, &mut causes, vertex, state)?;
+    each_once(alloc, causes.as_slice())
+}
+
+fn put_asked_causes<'a>(
+    alloc: Global,
+    known: &KnownProblem<'a>,
+    those: &[(usize, Class)],
+    causes: &mut Vec<Cause<'a>>,
+    vertex: VertexRef<'a>,
+    state: StateRef<'a>,
+) -> Result<(), AllocError>
+    requires default { KnowsDefault known.now }
+    ensures { OnOk result (cause_views causes.new.items ≡ cause_views causes.old.items ++ asked_causes
+        (problem known.now) (noted_views those.now) (vertex_ref_view vertex.entry) (state_ref_view state.entry)) }
+{
+    match vertex {
+        VertexRef::Dependency(owner, number) => {
+            put_asked_of(alloc, known, those, causes, owner, number, state)
+        }
+        VertexRef::Root
+        | VertexRef::Package(_, _)
+        | VertexRef::Feature(_, _, _)
+        | VertexRef::Ask(_, _, _, _) => put_causes(alloc, known, causes, vertex, state),
+    }
+}
+
+/// What a dependency gives in a state.
+fn put_asked_of<'a>(
+    alloc: Global,
+    known: &KnownProblem<'a>,
+    those: &[(usize, Class)],
+    causes: &mut Vec<Cause<'a>>,
+    owner: OwnerRef<'a>,
+    number: usize,
+    state: StateRef<'a>,
+) -> Result<(), AllocError>
+    requires default { KnowsDefault known.now }
+    ensures { OnOk result (cause_views causes.new.items ≡ cause_views causes.old.items
+        ++ asked_causes (problem known.now) (noted_views those.now)
+        (model.dep (owner_ref_view owner.entry) number) (state_ref_view state.entry)) }
+{
+    match state {
+        StateRef::Absent => Ok(()),
+        StateRef::Present => Ok(()),
+        StateRef::Version(_) => Ok(()),
+        StateRef::Class(class) => {
+            let lead = Lead {
+                owner,
+                number,
+                class,
+            };
+            put_asked_lead(alloc, known, those, causes, lead)
+        }
     }
 }
 

@@ -6,9 +6,8 @@ use Rattle.incompatibilities.specs.declared.origin.Origin.TheVariants.{Axiom}
 use Rattle.terms.specs.Terms.{TermView}
 use Rattle.model.specs.Content.{Problem}
 use Rattle.model.specs.Axioms.{Term}
-use Rattle.refutations.specs.Causes.{terms_of_cause}
+use Rattle.refutations.specs.Causes.{Cause, of_root, terms_of_cause}
 use Rattle.numbering.specs.Numberings.{IsGrown, IsNumbering, Numbering, Says}
-use Rattle.numbering.specs.Pairs.{Pair}
 use Rattle.numbering.proofs.Needing.{grows_on, says_more}
 use Rattle.std.specs.List.{AllPairs}
 use Rattle.guiding.specs.inner.Guides.{AreStored, EncodedView, GoesOn, IsPut}
@@ -37,10 +36,9 @@ pub says_on : (q : Problem) (vs new : Numbering) → IsGrown vs new → IsNumber
 says_on q vs new grown ok made ts says = subst (λ w. Says q w made ts) (sym grown.1)
     (says_more q vs grown.0 made ts (subst (AllPairs (λ v w. v ≢ w)) grown.1 ok.once) says)
 
-pub added_on : (q : Problem) (vs : Numbering) (es more : List EntryView) (p : Pair) → IsPut q vs es p
-    → IsPut q vs (es ++ more) p
-added_on q vs es more p added c is first =
-    let a = added c is first in
+pub added_on : (q : Problem) (vs : Numbering) (es more : List EntryView) (c : Cause) → IsPut q vs es c
+    → IsPut q vs (es ++ more) c
+added_on q vs es more c a =
     let lt = a.1 in
     let same : entry (es ++ more) a.0 ≡ entry es a.0 =
     get_or_append_left es more (record { terms = []; origin = Axiom 0 }) a.0 a.1 in (
@@ -50,14 +48,14 @@ added_on q vs es more p added c is first =
       subst (λ (e : EntryView). Says q vs e.terms (terms_of_cause q c)) (sym same) a.3,
     )
 
-pub added_grown : (q : Problem) (vs new : Numbering) (es : List EntryView) (p : Pair) → IsGrown vs new
-    → IsNumbering q new → IsPut q vs es p → IsPut q new es p
-added_grown q vs new es p grown ok added c is first = let a =
-    added c is first in (a.0, a.1, a.2, says_on q vs new grown ok (entry es a.0).terms (terms_of_cause q c) a.3)
+pub added_grown : (q : Problem) (vs new : Numbering) (es : List EntryView) (c : Cause) → IsGrown vs new
+    → IsNumbering q new → IsPut q vs es c → IsPut q new es c
+added_grown q vs new es c grown ok a =
+    (a.0, a.1, a.2, says_on q vs new grown ok (entry es a.0).terms (terms_of_cause q c) a.3)
 
 pub stored_on : (g : EncodedView) (es more : List EntryView) → AreStored g.problem g.vertices g.asked es
     → AreStored g.problem g.vertices g.asked (es ++ more)
 stored_on g es more was = record {
-  root_is = added_on g.problem g.vertices es more _ was.root_is;
-  pairs = λ n i v h at. added_on g.problem g.vertices es more _ (was.pairs n i v h at);
+  root_is = λ t. added_on g.problem g.vertices es more of_root (was.root_is t);
+  pairs = λ c t all. added_on g.problem g.vertices es more c (was.pairs c t all);
 }

@@ -1,8 +1,7 @@
 -- What the guide of a search over a problem keeps: which vertices have numbers, and which pairs of a vertex and a state
 -- were asked for.
-use Rattle.std.specs.Prelude.{◌≡◌, ◌⊎◌, ◌+◌, ◌<◌, ◌≤◌, ◌==◌, ℕ, suc, List, [], ◌∷◌, ◌++◌, Bool, true, false, ◌||◌}
-use Rattle.std.specs.Prelude.{length, map}
-use Rattle.std.specs.Prelude.{take, Option, Some, None, IfSome, IsSome, slice_get, slice_set}
+use Rattle.std.specs.Prelude.{◌≡◌, ◌⊎◌, ◌+◌, ◌<◌, ◌≤◌, ◌==◌, ℕ, suc, List, [], ◌∷◌, ◌++◌, Bool, true, false, ◌||◌, length, map}
+use Rattle.std.specs.Prelude.{take, Contains, Option, Some, None, IfSome, IsSome, slice_get, slice_set}
 use Rattle.version_sets.specs.Sets.{Members, has, join, none, only, size}
 use Rattle.incompatibilities.specs.Incompatibilities.{Assignment}
 use Rattle.incompatibilities.specs.Stores.{EntryView, IsAxiom, entry}
@@ -13,18 +12,20 @@ use Rattle.propagation.specs.Satisfaction.{Agrees}
 use Rattle.propagation.specs.inner.Widening.{IsWider}
 use Rattle.model.specs.Content.{Content, Problem}
 use Rattle.model.specs.Selection.{IsValidSelection}
-use Rattle.model.specs.Vertices.{Vertex, root, absent, space}
+use Rattle.model.specs.Vertices.{Vertex, space}
 use Rattle.model.specs.inner.Assignment.{Assigns}
 use Rattle.model.specs.Axioms.{IsInstance, Kind, Term}
 use Rattle.vertices.specs.Kinds.{kind_number}
 use Rattle.model.specs.WellFormed.{IsCatalogue}
-use Rattle.refutations.specs.Causes.{Cause, is_cause, terms_of_cause}
+use Rattle.refutations.specs.Causes.{Cause, is_cause, of_root, terms_of_cause}
 use Rattle.model.specs.inner.Search.{IsUnbroken}
 use Rattle.numbering.specs.inner.Assignments.{IsOf, state_at, state_of}
 use Rattle.numbering.specs.inner.KnownProblem.{KnowsDefault, problem}
 use Rattle.numbering.specs.Numberings.{IsGrown, IsNumbering, Numbering, Says, number_in}
-use Rattle.numbering.specs.Pairs.{AreOfPair, Given, IsGivenAt, Pair, first_pair}
+use Rattle.numbering.specs.inner.AskedFor.{IsGivenNext, IsNoted}
+use Rattle.numbering.specs.Pairs.{AreOfPair, Given, Pair, pairs_of}
 use Rattle.numbering.specs.declared.known_problem.KnownProblem.{KnownProblem}
+use Rattle.numbering.specs.declared.noted.Noted.{Noted}
 use Rattle.incompatibilities.specs.inner.Counts.{combinations}
 use Rattle.guiding.specs.inner.Searching.{HasSpaces, IsOnly, IsRefutation, IsSeen, Pairs}
 use Rattle.guiding.specs.declared.turns.Answer.{Answer}
@@ -102,16 +103,25 @@ pub record IsOfInstance (q : Problem) (vs : Numbering) (e : EntryView) : Type 0 
   pub says : Says q vs e.terms terms
   pub origin : e.origin ≡ Axiom (kind_number kind)
 
--- each instance of a pair is an axiom of the store
-abbrev pub IsPut : Problem → Numbering → List EntryView → Pair → Type 0
-IsPut q vs es p = (c : Cause) → is_cause q c ≡ true → first_pair c ≡ p
-    → (id : ℕ) × (id < length es) × IsAxiom (entry es id).origin × Says q vs (entry es id).terms (terms_of_cause q c)
+-- the instance of a cause is an axiom of the store
+abbrev pub IsPut : Problem → Numbering → List EntryView → Cause → Type 0
+IsPut q vs es c = (id : ℕ) × (id < length es) × IsAxiom (entry es id).origin
+    × Says q vs (entry es id).terms (terms_of_cause q c)
 
--- the instances of the root's absence and of each pair that was asked for are in the store
+-- a pair that was asked for
+abbrev pub IsAskedFor : Problem → Numbering → List Members → Pair → Type 0
+IsAskedFor q vs asked p = (n : ℕ) × (i : ℕ) × (slice_get vs n ≡ Some p.0) × (has (set_of asked n) i ≡ true)
+    × (state_at q p.0 i ≡ p.1)
+
+-- each of a dependency and a class is noted
+abbrev pub AreNoted : Problem → Numbering → List Members → Noted → Type 0
+AreNoted q vs asked ns = (p : Pair) → IsAskedFor q vs asked p → IsNoted q ns p
+
+-- The instance of the root's absence is in the store, and each one all of whose pairs were asked for.
 pub record AreStored (q : Problem) (vs : Numbering) (asked : List Members) (es : List EntryView) : Type 0 where
-  pub root_is : IsPut q vs es (root, absent)
-  pub pairs : (n i : ℕ) (v : Vertex) → has (set_of asked n) i ≡ true → slice_get vs n ≡ Some v
-      → IsPut q vs es (v, state_at q v i)
+  pub root_is : is_cause q of_root ≡ true → IsPut q vs es of_root
+  pub pairs : (c : Cause) → is_cause q c ≡ true
+      → ((p : Pair) → Contains (pairs_of c) p → IsAskedFor q vs asked p) → IsPut q vs es c
 
 -- a guide goes on from another one
 pub record GoesOn (old new : EncodedView) : Type 0 where
@@ -121,6 +131,10 @@ pub record GoesOn (old new : EncodedView) : Type 0 where
   pub follows_is : new.follows ≡ old.follows
 
 -- ---- what its parts do
+
+-- vertices more, none of whose states was asked for
+abbrev pub IsMore : List Members → List Members → Type 0
+IsMore asked more = (came : List ℕ) × (more ≡ asked ++ map none came)
 
 -- vertices come onto the trail, and none of their states was asked for
 pub record IsCome (asked more : List Members) (t wide : TrailView) : Type 0 where
@@ -164,11 +178,12 @@ abbrev pub IsNextOpen : TrailView → List Members → ℕ → Option (ℕ × �
 IsNextOpen t asked seen None = length t.steps ≤ seen
 IsNextOpen t asked seen (Some d) = (d.0 < length t.sets) × IsOpenAt t.sets asked d.0 (Some d.1)
 
--- a pair is asked for: all its instances are given
+-- a pair is asked for: all its instances are given that wait for no other pair
 pub record AreAll (v i : ℕ) (old new : EncodedView) (came : List ℕ) (given : List Given) : Type 0 where
   pub marks : new.asked ≡ marked (old.asked ++ map none came) v i
   pub is : (w : Vertex) → slice_get old.vertices v ≡ Some w
-      → IsGivenAt old.problem new.vertices (w, state_at old.problem w i) given
+      → IsGivenNext old.problem new.vertices (IsAskedFor old.problem old.vertices old.asked)
+      (w, state_at old.problem w i) given
   pub begins : new.to_begin ≡ old.to_begin
 
 -- a pair is begun with: some of its instances are given

@@ -1,5 +1,5 @@
 -- What an assignment over numbers says of the vertices: one without a number is absent.
-use Rattle.std.specs.Prelude.{◌≡◌, ◌<◌, ℕ, List, true, Option, Some, None, slice_get, length, unwrap_or}
+use Rattle.std.specs.Prelude.{◌≡◌, ◌<◌, ℕ, List, true, Contains, Option, Some, None, slice_get, length, unwrap_or}
 use Rattle.incompatibilities.specs.Incompatibilities.{Assignment, Breaks}
 use Rattle.incompatibilities.specs.Stores.{EntryView, entry, terms_of}
 use Rattle.model.specs.Content.{Problem, Content}
@@ -7,7 +7,7 @@ use Rattle.model.specs.Vertices.{Vertex, State, absent, space}
 use Rattle.model.specs.inner.Assignment.{Assigns}
 use Rattle.refutations.specs.Causes.{Cause, is_cause, terms_of_cause}
 use Rattle.numbering.specs.Numberings.{Numbering, number_in, Says}
-use Rattle.numbering.specs.Pairs.{Pair, first_pair}
+use Rattle.numbering.specs.Pairs.{Pair, pairs_of}
 
 -- the state of a vertex that has this number
 abbrev pub state_at : Problem → Vertex → ℕ → State
@@ -29,16 +29,16 @@ IsWithin q vs x = (n : ℕ) (v : Vertex) → slice_get vs n ≡ Some v → x n <
 abbrev pub BreaksNone : Assignment → List EntryView → Type 0
 BreaksNone x es = (id : ℕ) → id < length es → Breaks x (terms_of es id) → ⊥
 
--- each instance of a pair is an entry of the store
-abbrev pub IsAdded : Problem → Numbering → List EntryView → Pair → Type 0
-IsAdded q vs es p = (c : Cause) → is_cause q c ≡ true → first_pair c ≡ p
-    → (id : ℕ) × (id < length es) × Says q vs (entry es id).terms (terms_of_cause q c)
+-- the instance of a cause is an entry of the store
+abbrev pub IsAdded : Problem → Numbering → List EntryView → Cause → Type 0
+IsAdded q vs es c = (id : ℕ) × (id < length es) × Says q vs (entry es id).terms (terms_of_cause q c)
 
--- an assignment to which a solver may hold: it breaks no entry, and each pair that holds in it was added
+-- an assignment to which a solver may hold: it breaks no entry, and each instance was added whose pairs hold in it
 pub record IsSettled (q : Problem) (vs : Numbering) (es : List EntryView) (x : Assignment) : Type 0 where
   pub within : IsWithin q vs x
   pub none_broken : BreaksNone x es
-  pub added : (v : Vertex) (s : State) → state_of q vs x v ≡ s → IsAdded q vs es (v, s)
+  pub added : (c : Cause) → is_cause q c ≡ true
+      → ((p : Pair) → Contains (pairs_of c) p → state_of q vs x p.0 ≡ p.1) → IsAdded q vs es c
 
 -- the assignment gives each numbered vertex the state that it has in a content
 abbrev pub IsOf : Problem → Numbering → Content → Assignment → Type 0

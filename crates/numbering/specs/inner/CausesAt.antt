@@ -1,6 +1,6 @@
 -- The causes of the instances that are added for a vertex and one of its states, as a list (these kinds are this
 -- project's).
-use Rattle.std.specs.Prelude.{◌+◌, ℕ, List, [], ◌∷◌, ◌++◌, if◌then◌else◌, Option, None, Some, nat_eq, map}
+use Rattle.std.specs.Prelude.{◌+◌, ◌&&◌, ℕ, List, [], ◌∷◌, ◌++◌, if◌then◌else◌, Option, None, Some, map}
 use Rattle.std.specs.List.{flat_map, list_any}
 use Rattle.semver.specs.Parse.{Parts}
 use Rattle.model.specs.Summary.{Dependency, Entry, feature, dependency, dependency_feature, weak_feature}
@@ -8,12 +8,13 @@ use Rattle.model.specs.Summary.{asked_of_target, same_text}
 use Rattle.model.specs.Content.{Problem}
 use Rattle.model.specs.Selection.{Class, class_of}
 use Rattle.model.specs.Vertices.{Owner, the_root, version_of, Vertex, root, pkg, dep, feat, ask, State, absent, present}
-use Rattle.model.specs.Vertices.{version, in_class, same_class, same_vertex, owner_brings, dep_classes}
+use Rattle.model.specs.Vertices.{version, in_class, same_vertex, owner_brings, dep_classes}
 use Rattle.model.specs.Axioms.{is_lower}
 use Rattle.refutations.specs.Causes.{Cause, of_root, of_need, of_target, of_feature, of_list, of_ask, of_entry}
 use Rattle.refutations.specs.Causes.{of_enabling, of_asking, of_newest, of_weak, is_needed, dependency_at}
-use Rattle.refutations.specs.Causes.{entries_of, table_of_owner}
+use Rattle.refutations.specs.Causes.{entries_of, has_class, table_of_owner}
 use Rattle.refutations.specs.inner.Listed.{classes_at, same_cause}
+use Rattle.numbering.specs.inner.OnPackage.{is_other}
 
 -- what each of a list gives, with its number; the first has the number n
 abbrev pub each_from : {X Y : Type 0} → (ℕ → X → List Y) → ℕ → List X → List Y
@@ -34,10 +35,6 @@ turned_if name v f (weak_feature d g) = []
 abbrev pub weak_if : List ℕ → Parts → List ℕ → List ℕ → ℕ → Dependency → Class → List Cause
 weak_if name v f g i d k =
     if same_vertex (feat name (class_of v) f) (feat d.real_name k g) then [] else of_weak name v f g i k ∷ []
-
--- another dependency that may lead to the higher class m too
-abbrev pub newest_at : Owner → ℕ → ℕ → Class → Class → Class → List Cause
-newest_at o i j k m n = if same_class n m then of_newest o i j k m ∷ [] else []
 
 module _ (q : Problem) where
   abbrev pub needs_of : Owner → List Cause
@@ -71,15 +68,14 @@ module _ (q : Problem) where
   root_asked the_root d = flat_map (λ p. if same_text d.name p.0 then p.1 ∷ [] else []) q.root_asks
   root_asked (version_of name v) d = []
 
-  -- another one on the same package, with the higher class m
-  abbrev pub newest_if : Owner → ℕ → Class → Dependency → Class → ℕ → Dependency → List Cause
-  newest_if o i k d m j e = if nat_eq i j then [] else
-      (if same_text d.real_name e.real_name then flat_map (newest_at o i j k m) (dep_classes q e) else [])
+  -- with the dependency j in the class m, if that is higher and the dependency d may lead there too
+  abbrev pub overtaken_if : Owner → ℕ → Class → Dependency → ℕ → Class → List Cause
+  overtaken_if o i k d j m = if is_lower k m && has_class q m d then of_newest o i j k m ∷ [] else []
 
-  -- all others with one of its own classes, if that is higher
-  abbrev pub newest_above : Owner → ℕ → Class → Dependency → Class → List Cause
-  newest_above o i k d m =
-      if is_lower k m then each_from (newest_if o i k d m) 0 (owner_brings q o).dependencies else []
+  -- with another one on the same package, in each of its classes
+  abbrev pub newest_if : Owner → ℕ → Class → Dependency → ℕ → Dependency → List Cause
+  newest_if o i k d j e =
+      if is_other i d.real_name j e then flat_map (overtaken_if o i k d j) (dep_classes q e) else []
 
   -- its target and the features that it asks for: what it gives without another dependency
   abbrev pub alone_causes : Owner → ℕ → Class → Option Dependency → List Cause
@@ -88,7 +84,8 @@ module _ (q : Problem) where
 
   abbrev pub lead_causes : Owner → ℕ → Class → Option Dependency → List Cause
   lead_causes o i k None = []
-  lead_causes o i k (Some d) = alone_causes o i k (Some d) ++ flat_map (newest_above o i k d) (dep_classes q d)
+  lead_causes o i k (Some d) =
+      alone_causes o i k (Some d) ++ each_from (newest_if o i k d) 0 (owner_brings q o).dependencies
 
   -- ---- of each vertex in each of its states
 

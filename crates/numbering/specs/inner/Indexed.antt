@@ -1,4 +1,4 @@
--- What owners bring, kept by the owner, and by the owner and a package.
+-- What owners bring, kept by the owner.
 use Rattle.std.specs.Prelude.{◌≡◌, ◌&&◌, ℕ, nat_eq, List, Bool, Some}
 use Rattle.std.specs.Borrow.{Bor}
 use Rattle.std.specs.Cmp.Lexicographic.{pointwise}
@@ -8,8 +8,6 @@ use Rattle.model.specs.Summary.{Dependency}
 use Rattle.model.specs.Vertices.{owner_brings, same_owner}
 use Rattle.vertices.specs.inner.RefViews.{owner_ref_view}
 use Rattle.vertices.specs.declared.vertex.OwnerRef.{OwnerRef}
-use Rattle.numbering.specs.inner.Called.{numbered_from}
-use Rattle.numbering.specs.inner.OnPackage.{on_package}
 
 abbrev pub same_ref : OwnerRef → OwnerRef → Bool
 same_ref o p = same_owner (owner_ref_view o) (owner_ref_view p)
@@ -28,11 +26,3 @@ OwnerKey = OwnerRef × Bor (List ℕ)
 
 abbrev pub same_owner_key : OwnerKey → OwnerKey → Bool
 same_owner_key x y = same_ref x.0 y.0 && pointwise nat_eq x.1.now y.1.now
-
--- those are the owner's dependencies on the package
-abbrev pub AreThere : Problem → OwnerKey → Problem × List (ℕ × Dependency) → Type 0
-AreThere q x b = b ≡ (q, on_package x.1.now (numbered_from 0 (owner_brings q (owner_ref_view x.0)).dependencies))
-
--- those that are kept are these
-abbrev pub AreByClass : {S : Type 0} → Problem → HashMap OwnerKey (Problem × List (ℕ × Dependency)) S → Type 0
-AreByClass q m = (x : OwnerKey) (b : Problem × List (ℕ × Dependency)) → get same_owner_key m x ≡ Some b → AreThere q x b

@@ -16,10 +16,6 @@ on_package x ps = filter (λ p. same_text p.1.real_name x) ps
 abbrev pub is_other : ℕ → List ℕ → ℕ → Dependency → Bool
 is_other i name j e = not (nat_eq i j) && same_text name e.real_name
 
--- those that are
-abbrev pub others_on : ℕ → List ℕ → List (ℕ × Dependency) → List (ℕ × Dependency)
-others_on i name ps = filter (λ p. is_other i name p.0 p.1) ps
-
 module _ {S : Type 0} where
   -- what a map has at the name of a package
   abbrev pub on_in : HashMap (Bor (List ℕ)) (Vec Numbered Global) S → Bor (List ℕ) → List (ℕ × Dependency)

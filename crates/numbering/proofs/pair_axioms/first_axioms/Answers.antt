@@ -1,8 +1,5 @@
-use Rattle.std.proofs.Common.{◌≡◌, List, Contains, sym, ap, ◌∙◌, subst, true}
-use Rattle.std.specs.List.{AllByRecursion}
+use Rattle.std.proofs.Common.{◌≡◌, Contains, ap, ◌∙◌, subst}
 use Rattle.std.proofs.lemmas.Result.{IfOk-weaker}
-use Rattle.model.specs.Vertices.{State}
-use Rattle.refutations.specs.Causes.{Cause, is_cause}
 use Rattle.numbering.specs.inner.Assignments.{state_at}
 use Rattle.numbering.specs.inner.CausesAt.{first_causes}
 use Rattle.numbering.specs.GivenViews.{cause_views, given_views}

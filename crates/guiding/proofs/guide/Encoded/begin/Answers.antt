@@ -4,9 +4,21 @@ use Rattle.incompatibilities.specs.Stores.{EntryView, entries_view}
 use Rattle.numbering.specs.GivenViews.{given_views}
 use Rattle.propagation.specs.Promises.{IsTrail}
 use Rattle.propagation.specs.Trails.{trail_view}
-use Rattle.guiding.specs.inner.Guides.{IsCome, with_given}
+use Rattle.numbering.specs.inner.KnownProblem.{problem}
+use Rattle.guiding.specs.inner.Guides.{IsCome, IsMore, with_given}
+use Rattle.guiding.proofs.Noting.{none_noted}
 use Rattle.guiding.proofs.Starts.{begun}
 use Rattle.guiding.proofs.guide.Encoded.begin.Goals as goal
+
+pub invariant_of-result : goal.invariant_of-result
+invariant_of-result g c =
+    let tests = g.S.States.tests in (
+      c.come.ensures.encoding,
+      c.requires.follows,
+      none_noted (problem c.args.known) c.axioms_at.new.table (map tests c.come.new.asked.items) c.new.result
+          (subst (λ l. IsMore (map tests l) (map tests c.come.new.asked.items)) c.new-asked.ensures.items
+          c.come.ensures.more),
+    )
 
 pub returns : goal.returns
 returns g c =

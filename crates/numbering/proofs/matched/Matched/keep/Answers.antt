@@ -17,5 +17,4 @@ invariant_of-self c =
           (c.in_ok-classes.ensures ∙ ap (λ r. classes_asked q d.now.real_name (requirement_view r))
           (sym c.deref-requirement.ensures));
       same_problem = c.args.self.now.same_problem;
-      are_by_class = c.args.self.now.are_by_class;
     }

@@ -1,0 +1,231 @@
+-- The causes that are listed for a pair that is asked for after others.
+use Rattle.std.proofs.Common.{◌≡◌, ◌⊎◌, ℕ, suc, zero, List, [], ◌∷◌, ◌++◌, map, Bool, true, false, not, ◌&&◌, Contains}
+use Rattle.std.proofs.Common.{Option, Some, None, nat_eq, refl, sym, ap, ◌∙◌, subst, inl, inr, true≢false, arith}
+use Rattle.std.specs.List.{flat_map}
+use Rattle.std.proofs.lemmas.Bool.{and_from, eq-eqb, ne_eqb, not-true}
+use Rattle.std.proofs.lemmas.List.Elements.{Contains-append_cases, Contains-append_left, Contains-append_right}
+use Rattle.model.specs.Summary.{Dependency, asked_of_target, same_text}
+use Rattle.model.specs.Content.{Problem}
+use Rattle.model.specs.Selection.{Class}
+use Rattle.model.specs.Vertices.{Owner, the_root, version_of, Vertex, root, pkg, dep, feat, ask, State, absent, present}
+use Rattle.model.specs.Vertices.{version, in_class, dep_classes, space}
+use Rattle.model.specs.Axioms.{IsVertex, is_lower}
+use Rattle.model.proofs.Flat.{in_flat, to_flat}
+use Rattle.model.proofs.Lists.{in_none, in_cons, in_first, in_rest, to_map}
+use Rattle.model.proofs.Same.{both, text-refl, text-same}
+use Rattle.refutations.specs.Causes.{Cause, of_root, of_need, of_target, of_feature, of_list, of_ask, of_entry}
+use Rattle.refutations.specs.Causes.{of_enabling, of_asking, of_newest, of_weak, dependency_at, has_class, lists_feature}
+use Rattle.refutations.specs.Causes.{is_cause}
+use Rattle.refutations.proofs.Named.{class-is, passes-is}
+use Rattle.numbering.specs.inner.AskedFor.{AreBeside, HasOther, IsNoted, asked_causes, asked_leads, both_of, listed_at}
+use Rattle.numbering.specs.inner.AskedFor.{newest_of}
+use Rattle.numbering.specs.inner.CausesAt.{alone_causes, root_asked}
+use Rattle.numbering.specs.Pairs.{Pair, first_pair, pairs_of}
+use Rattle.numbering.specs.declared.noted.Noted.{Noted}
+use Rattle.numbering.proofs.CausesLaws.{asked_there, first_there, is_listed, is_there, newest_is}
+use Rattle.numbering.proofs.Each.{from_if, only_one, to_if}
+
+-- ---- a pair is among those of a cause
+
+pub first_named : (c : Cause) → Contains (pairs_of c) (first_pair c)
+first_named of_root = in_first _ []
+first_named (of_need o i) = in_first _ []
+first_named (of_target o i k) = in_first _ []
+first_named (of_feature name k f) = in_first _ []
+first_named (of_list o i k g) = in_first _ []
+first_named (of_ask name v i g k) = in_first _ []
+first_named (of_entry name v f g) = in_first _ []
+first_named (of_enabling name v f e i) = in_first _ []
+first_named (of_asking name v f g i) = in_first _ []
+first_named (of_newest o i j k m) = in_first _ ((dep o j, in_class m) ∷ [])
+first_named (of_weak name v f g i k) = in_first _ []
+
+module _ (q : Problem) (ps : List (ℕ × Class)) where
+  -- ---- no other is listed
+
+  newest_there : (o : Owner) (i j : ℕ) (k m : Class) (p : Pair) (c : Cause) → Contains (newest_of q o i k j m) c
+      → Contains (pairs_of (of_newest o i j k m)) p → (is_cause q c ≡ true) × Contains (pairs_of c) p
+  newest_there o i j k m p c h named =
+      let a = of_newest o i j k m in
+      let r = from_if (is_cause q a) c (a ∷ []) h in
+      let e : c ≡ a = only_one a c r.1 in
+      (ap (is_cause q) e ∙ r.0, subst (λ x. Contains (pairs_of x) p) (sym e) named)
+
+  both_there : (o : Owner) (i : ℕ) (k : Class) (c : Cause) → Contains (flat_map (both_of q o i k) ps) c
+      → (is_cause q c ≡ true) × Contains (pairs_of c) (dep o i, in_class k)
+  both_there o i k c h =
+      let r = in_flat (both_of q o i k) ps c h in
+      let j = (r.0).0 in
+      let m = (r.0).1 in
+      let one : Pair = (dep o i, in_class k) in
+      let other : Pair = (dep o j, in_class m) in
+      elim (Contains-append_cases (newest_of q o i k j m) (newest_of q o j m i k) c r.2) [
+        | inl x ↦ newest_there o i j k m one c x (in_first one (other ∷ []))
+        | inr y ↦ newest_there o j i m k one c y (in_rest other one (one ∷ []) (in_first one []))
+      ]
+
+  named : (v : Vertex) (s : State) (c : Cause) → (is_cause q c ≡ true) × (first_pair c ≡ (v, s))
+      → (is_cause q c ≡ true) × Contains (pairs_of c) (v, s)
+  named v s c (t, e) = (t, subst (Contains (pairs_of c)) e (first_named c))
+
+  dep_there : (o : Owner) (i : ℕ) (k : Class) → IsVertex q (dep o i) → Contains (space q (dep o i)) (in_class k)
+      → (c : Cause) → Contains (asked_leads q ps o i k (dependency_at q o i)) c
+      → (is_cause q c ≡ true) × Contains (pairs_of c) (dep o i, in_class k)
+  dep_there o i k is within c h = by (dependency_at q o i) refl h
+    where
+      by : (x : Option Dependency) → dependency_at q o i ≡ x → Contains (asked_leads q ps o i k x) c
+          → (is_cause q c ≡ true) × Contains (pairs_of c) (dep o i, in_class k)
+      by None e h = absurd (in_none c h)
+      by (Some d) e h = elim (Contains-append_cases (alone_causes q o i k (Some d)) (flat_map (both_of q o i k) ps) c h) [
+        | inl a ↦ named (dep o i) (in_class k) c (first_there q (dep o i) (in_class k) is within c
+            (subst (λ y. Contains (alone_causes q o i k y) c) (sym e) a))
+        | inr b ↦ both_there o i k c b
+      ]
+
+  pub next_there : (v : Vertex) (s : State) → IsVertex q v → Contains (space q v) s → (c : Cause)
+      → Contains (asked_causes q ps v s) c → (is_cause q c ≡ true) × Contains (pairs_of c) (v, s)
+  next_there root s is within c h = named root s c (is_there q root s is within c h)
+  next_there (pkg name k) s is within c h = named (pkg name k) s c (is_there q (pkg name k) s is within c h)
+  next_there (dep o i) absent is within c h = absurd (in_none c h)
+  next_there (dep o i) present is within c h = absurd (in_none c h)
+  next_there (dep o i) (version w) is within c h = absurd (in_none c h)
+  next_there (dep o i) (in_class k) is within c h = dep_there o i k is within c h
+  next_there (feat name k f) s is within c h = named (feat name k f) s c (is_there q (feat name k f) s is within c h)
+  next_there (ask name v i g) s is within c h = named (ask name v i g) s c (is_there q (ask name v i g) s is within c h)
+
+  -- ---- and each is
+
+  lead_in : (o : Owner) (i : ℕ) (k : Class) (d : Dependency) (c : Cause) → dependency_at q o i ≡ Some d
+      → Contains (asked_leads q ps o i k (Some d)) c → Contains (asked_leads q ps o i k (dependency_at q o i)) c
+  lead_in o i k d c e h = subst (λ x. Contains (asked_leads q ps o i k x) c) (sym e) h
+
+  -- one that names one pair
+  first_in : (c : Cause) → is_cause q c ≡ true → pairs_of c ≡ first_pair c ∷ []
+      → Contains (asked_causes q ps (first_pair c).0 (first_pair c).1) c
+  first_in of_root t one = is_listed q of_root t
+  first_in (of_need the_root i) t one = is_listed q (of_need the_root i) t
+  first_in (of_need (version_of name v) i) t one = is_listed q (of_need (version_of name v) i) t
+  first_in (of_target o i k) t one = let r = passes-is (has_class q k) (dependency_at q o i) t in
+      lead_in o i k r.0 (of_target o i k) r.1 (in_first (of_target o i k) _)
+  first_in (of_feature name k f) t one = is_listed q (of_feature name k f) t
+  first_in (of_list o i k g) t one =
+      let r = passes-is (λ d. has_class q k d && lists_feature q o d g) (dependency_at q o i) t in
+      let a = both (has_class q k r.0) (lists_feature q o r.0 g) r.2 in
+      lead_in o i k r.0 (of_list o i k g) r.1 (in_rest (of_target o i k) (of_list o i k g) _
+      (Contains-append_left (map (of_list o i k) (asked_of_target r.0 ++ root_asked q o r.0)) _ (of_list o i k g)
+      (to_map (of_list o i k) (asked_of_target r.0 ++ root_asked q o r.0) g (asked_there q o r.0 g a.1))))
+  first_in (of_ask name v i g k) t one = is_listed q (of_ask name v i g k) t
+  first_in (of_entry name v f g) t one = is_listed q (of_entry name v f g) t
+  first_in (of_enabling name v f e i) t one = is_listed q (of_enabling name v f e i) t
+  first_in (of_asking name v f g i) t one = is_listed q (of_asking name v f g i) t
+  first_in (of_newest o i j k m) t one = absurd (two _ _ _ one)
+    where
+      two : (a b c : Pair) → a ∷ b ∷ [] ≡ c ∷ [] → ⊥
+      two a b c e = let n : suc (suc zero) ≡ suc zero = ap Rattle.std.proofs.Common.length e in omega (arith, n)
+  first_in (of_weak name v f g i k) t one = is_listed q (of_weak name v f g i k) t
+
+  one_in : (c : Cause) (v : Vertex) (s : State) → is_cause q c ≡ true → pairs_of c ≡ first_pair c ∷ []
+      → Contains (pairs_of c) (v, s) → Contains (asked_causes q ps v s) c
+  one_in c v s t one here =
+      let e : (v, s) ≡ first_pair c = only_one (first_pair c) (v, s) (subst (λ l. Contains l (v, s)) one here) in
+      subst (λ (p : Pair). Contains (asked_causes q ps p.0 p.1) c) (sym e) (first_in c t one)
+
+  -- ---- one that names two
+
+  abbrev IsOrNoted : Noted → Pair → Pair → Type 0
+  IsOrNoted ns p r = (r ≡ p) ⊎ IsNoted q ns r
+
+  -- what its being there says of the two
+  newest_names : (o : Owner) (i j : ℕ) (k m : Class) → is_cause q (of_newest o i j k m) ≡ true → (i ≡ j → ⊥)
+      × (d : Dependency) × (e : Dependency) × (dependency_at q o i ≡ Some d) × (dependency_at q o j ≡ Some e)
+      × (d.real_name ≡ e.real_name) × (is_lower k m ≡ true) × Contains (dep_classes q d) m
+  newest_names o i j k m t =
+      let r = newest_is q o i j k m t in
+      let x = both (not (nat_eq i j)) (same_text (r.0).real_name (r.1).real_name) r.4 in
+      let y = both (is_lower k m) (has_class q m r.0) r.7 in (
+        λ e. true≢false (sym (eq-eqb i j e) ∙ not-true (nat_eq i j) x.0),
+        r.0,
+        r.1,
+        r.2,
+        r.3,
+        text-same (r.0).real_name (r.1).real_name x.1,
+        y.0,
+        class-is q r.0 m y.1,
+      )
+
+  -- each is another one for the other
+  other_on : (o : Owner) (i j : ℕ) (d e : Dependency) → (i ≡ j → ⊥) → d.real_name ≡ e.real_name
+      → dependency_at q o j ≡ Some e → HasOther q o i d
+  other_on o i j d e ne same at = (
+    j,
+    e,
+    at,
+    and_from (not (nat_eq i j)) (same_text d.real_name e.real_name)
+        (ap not (ne_eqb i j ne)) (subst (λ n. same_text d.real_name n ≡ true) same (text-refl d.real_name)),
+  )
+
+  -- another pair than this one is noted
+  others : (ns : Noted) (o : Owner) (i j : ℕ) (k m : Class) → (j ≡ i → ⊥)
+      → IsOrNoted ns (dep o i, in_class k) (dep o j, in_class m) → IsNoted q ns (dep o j, in_class m)
+  others ns o i j k m ne (inl x) = absurd (ne (inner o j i (ap (λ (p : Pair). p.0) x)))
+    where
+      inner : (o : Owner) (i j : ℕ) → dep o i ≡ dep o j → i ≡ j
+      inner o i j e = cc
+  others ns o i j k m ne (inr noted) = noted
+
+  both_in : (o : Owner) (i j : ℕ) (k m : Class) (d : Dependency) (c : Cause) → dependency_at q o i ≡ Some d
+      → Contains ps (j, m) → Contains (both_of q o i k (j, m)) c
+      → Contains (asked_causes q ps (dep o i) (in_class k)) c
+  both_in o i j k m d c at there h = lead_in o i k d c at
+      (Contains-append_right (alone_causes q o i k (Some d)) (flat_map (both_of q o i k) ps) c
+      (to_flat (both_of q o i k) ps (j, m) c there h))
+
+  newest_in : (ns : Noted) (o : Owner) (i j : ℕ) (k m : Class) (v : Vertex) (s : State) → AreBeside q ns (v, s) ps
+      → is_cause q (of_newest o i j k m) ≡ true → Contains (pairs_of (of_newest o i j k m)) (v, s)
+      → ((r : Pair) → Contains (pairs_of (of_newest o i j k m)) r → IsOrNoted ns (v, s) r)
+      → Contains (asked_causes q ps v s) (of_newest o i j k m)
+  newest_in ns o i j k m v s are t here all =
+      let r = newest_names o i j k m t in
+      let d = r.1 in
+      let e = r.2 in
+      let c = of_newest o i j k m in
+      let first : Pair = (dep o i, in_class k) in
+      let second : Pair = (dep o j, in_class m) in
+      let pair : Pair = (v, s) in
+      let of_first : HasOther q o i d = other_on o i j d e r.0 r.5 r.4 in
+      let of_second : HasOther q o j e = other_on o j i e d (λ x. r.0 (sym x)) (sym r.5) r.3 in
+      let higher : Contains (newest_of q o i k j m) c = to_if (is_cause q c) c (c ∷ []) t (in_first c []) in
+      elim (in_cons first pair (second ∷ []) here) [
+        | inl x ↦
+            let p : IsOrNoted ns pair second = all second (in_rest first second (second ∷ []) (in_first second [])) in
+            let noted = others ns o i j k m (λ e. r.0 (sym e)) (subst (λ y. IsOrNoted ns y second) (sym x) p) in
+            subst (λ (p : Pair). Contains (asked_causes q ps p.0 p.1) c) x (both_in o i j k m d c r.3
+            ((subst (λ p. AreBeside q ns p ps) (sym x) are o i d k refl r.3 of_first).higher m r.7 r.6 (j, m)
+            (subst (λ n. Contains (listed_at ns.here o n m) (j, m)) (sym r.5) (noted o j e m refl r.4 of_second).here))
+            (Contains-append_left (newest_of q o i k j m) (newest_of q o j m i k) c higher))
+        | inr y ↦
+            let x : pair ≡ second = only_one second pair y in
+            let p : IsOrNoted ns pair first = all first (in_first first (second ∷ [])) in
+            let noted = others ns o j i m k r.0 (subst (λ y. IsOrNoted ns y first) x p) in
+            subst (λ (p : Pair). Contains (asked_causes q ps p.0 p.1) c) (sym x) (both_in o j i m k e c r.4
+            ((subst (λ p. AreBeside q ns p ps) x are o j e m refl r.4 of_second).lower (i, k)
+            (subst (λ n. Contains (listed_at ns.lower o n m) (i, k)) r.5
+            ((noted o i d k refl r.3 of_first).lower m r.7 r.6)))
+            (Contains-append_right (newest_of q o j m i k) (newest_of q o i k j m) c higher))
+      ]
+
+  pub next_listed : (ns : Noted) (v : Vertex) (s : State) (c : Cause) → AreBeside q ns (v, s) ps → is_cause q c ≡ true
+      → Contains (pairs_of c) (v, s)
+      → ((r : Pair) → Contains (pairs_of c) r → (r ≡ (v, s)) ⊎ IsNoted q ns r)
+      → Contains (asked_causes q ps v s) c
+  next_listed ns v s of_root are t here all = one_in of_root v s t refl here
+  next_listed ns v s (of_need o i) are t here all = one_in (of_need o i) v s t refl here
+  next_listed ns v s (of_target o i k) are t here all = one_in (of_target o i k) v s t refl here
+  next_listed ns v s (of_feature name k f) are t here all = one_in (of_feature name k f) v s t refl here
+  next_listed ns v s (of_list o i k g) are t here all = one_in (of_list o i k g) v s t refl here
+  next_listed ns v s (of_ask name w i g k) are t here all = one_in (of_ask name w i g k) v s t refl here
+  next_listed ns v s (of_entry name w f g) are t here all = one_in (of_entry name w f g) v s t refl here
+  next_listed ns v s (of_enabling name w f e i) are t here all = one_in (of_enabling name w f e i) v s t refl here
+  next_listed ns v s (of_asking name w f g i) are t here all = one_in (of_asking name w f g i) v s t refl here
+  next_listed ns v s (of_newest o i j k m) are t here all = newest_in ns o i j k m v s are t here all
+  next_listed ns v s (of_weak name w f g i k) are t here all = one_in (of_weak name w f g i k) v s t refl here

@@ -1,0 +1,62 @@
+use Rattle.std.proofs.Common.{◌≡◌, Contains, [], sym, ap, ◌∙◌, subst}
+use Rattle.std.proofs.lemmas.Result.{IfOk-weaker}
+use Rattle.model.specs.Vertices.{State}
+use Rattle.numbering.specs.inner.AskedFor.{AreBeside, IsGivenNext, IsNoted, asked_causes, noted_views}
+use Rattle.numbering.specs.inner.Assignments.{state_at}
+use Rattle.numbering.specs.inner.CausesAt.{with_causes}
+use Rattle.numbering.specs.GivenViews.{cause_views, given_views}
+use Rattle.numbering.specs.inner.KnownProblem.{problem}
+use Rattle.numbering.specs.Pairs.{AreGiven}
+use Rattle.vertices.specs.inner.RefViews.{state_ref_view, vertex_ref_view}
+use Rattle.numbering.proofs.AddLaws.{all_there, state_in}
+use Rattle.numbering.proofs.ListLaws.{on_ok_always}
+use Rattle.numbering.proofs.Overtaken.{next_listed, next_there}
+use Rattle.numbering.proofs.SameCauses.{same_ones}
+use Rattle.numbering.proofs.pair_axioms.next_axioms.Goals as goal
+
+pub instances-requires-clause-there : goal.instances-requires-clause-there
+instances-requires-clause-there g c =
+    let q = problem c.args.known.now in
+    let v = vertex_ref_view c.args.vertex in
+    let s = state_ref_view c.in_ok-state.state in
+    let ps = noted_views c.as_slice.result.now in
+    let within = state_in q v c.args.number s c.requires.state c.in_ok-state.ensures in
+    let listed = asked_causes q ps v s in
+    let are : cause_views c.as_slice-2.result.now ≡ with_causes [] listed =
+    ap cause_views c.as_slice-2.ensures.keys ∙ c.in_ok-causes.ensures in
+    all_there q (cause_views c.as_slice-2.result.now)
+    (λ x i. (next_there q ps v s c.requires.vertex within x ((same_ones listed x).0
+    (subst (λ l. Contains l x) are i))).0)
+
+pub returns-clause-given : goal.returns-clause-given
+returns-clause-given g c =
+    let q = problem c.args.known.now in
+    let v = vertex_ref_view c.args.vertex in
+    let s = state_ref_view c.in_ok-state.state in
+    let ps = noted_views c.as_slice.result.now in
+    let old = c.args.noted.now in
+    let new = c.instances.new.table in
+    let within = state_in q v c.args.number s c.requires.state c.in_ok-state.ensures in
+    let listed = asked_causes q ps v s in
+    let beside = subst (λ l. AreBeside q old (v, s) (noted_views l)) (sym c.as_slice.ensures.value) c.in_ok-those.ensures in
+    let cs = cause_views c.as_slice-2.result.now in
+    let are : cs ≡ with_causes [] listed = ap cause_views c.as_slice-2.ensures.keys ∙ c.in_ok-causes.ensures in
+    IfOk-weaker c.instances.result (λ xs. AreGiven q new cs (given_views g.S.States.tests xs.items))
+    (λ xs. IsGivenNext q new (IsNoted q old) (v, state_at q v c.args.number) (given_views g.S.States.tests xs.items))
+    (λ xs given. subst (λ (r : State). IsGivenNext q new (IsNoted q old) (v, r) (given_views g.S.States.tests xs.items))
+    c.in_ok-state.ensures (record {
+      causes = cs;
+      there = λ x i. next_there q ps v s c.requires.vertex within x
+          ((same_ones listed x).0 (subst (λ l. Contains l x) are i));
+      all = λ x t here rest. subst (λ l. Contains l x) (sym are)
+          ((same_ones listed x).1 (next_listed q ps old v s x beside t here rest));
+      given = given;
+    }))
+    c.instances.ensures.given
+
+pub returns-clause-noted : goal.returns-clause-noted
+returns-clause-noted g c =
+    let q = problem c.args.known.now in
+    let v = vertex_ref_view c.args.vertex in
+    on_ok_always c.instances.result (subst (λ (r : State). IsNoted q c.note.new.self (v, r)) c.in_ok-state.ensures
+    c.in_ok-note.ensures.noted)
