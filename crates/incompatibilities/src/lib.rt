@@ -12,7 +12,7 @@
 //!
 //! Entries are only added, and an `Id` means one entry for good, so what was said of a store holds of the grown one.
 //! The store lists all entries by the vertices of their terms (`at`), with the states of the terms (`states_at`) and
-//! their numbers (`sizes_at`) beside. What who resolves conflicts wants to find again stands there too (`Notes`);
+//! their extents (`extents_at`) beside. What who resolves conflicts wants to find again stands there too (`Notes`);
 //! nothing rests on it.
 //!
 //! A layer above may rely on this: the contracts of `combine` and `add` are exact, and where memory is wanting `add`
@@ -32,4 +32,5 @@ pub use combining::combine;
 pub use incompatibility::Incompatibility;
 pub use notes::Notes;
 pub use origin::{Id, Origin};
+pub use rows::Extent;
 pub use store::Store;

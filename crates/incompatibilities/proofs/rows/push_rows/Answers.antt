@@ -1,5 +1,5 @@
 use Rattle.std.proofs.Common.{rules, ◌≡◌, ◌∙◌, ◌+◌, ◌++◌, [], ◌∷◌, length, ap, sym, subst, arith, vec_len}
-use Rattle.version_sets.specs.Sets.{size}
+use Rattle.incompatibilities.specs.Stores.{extent}
 use Rattle.std.specs.Vec.Iter.{into_iter_items, into_iter_len}
 use Rattle.incompatibilities.specs.inner.Rows.{row_at}
 use Rattle.incompatibilities.proofs.RowLemmas.{entering_first, entering_last, entering_more, first_room, none_left}
@@ -17,8 +17,8 @@ terms-init g c =
           c.requires.apart;
       sets = entering_first (λ t. t.states) c.args.sets.now.items c.args.terms.items _ gives.0 c.requires.sets
           c.requires.apart;
-      sizes = entering_first (λ t. size (g.S.States.tests t.states)) c.args.sizes.now.items c.args.terms.items _ gives.0
-          c.requires.sizes c.requires.apart;
+      extents = entering_first (λ t. extent (g.S.States.tests t.states)) c.args.extents.now.items c.args.terms.items _ gives.0
+          c.requires.extents c.requires.apart;
     }
 
 pub push_at-requires : goal.push_at-requires
@@ -33,9 +33,9 @@ pub push_at-requires-in-terms : goal.push_at-requires-in-terms
 push_at-requires-in-terms g c =
     let here : into_iter_items c.terms.term-iterator ≡ c.in-Some.term ∷ into_iter_items c.next.new.self =
     c.in-Some.ensures.steps.0 in
-    first_room (λ t. size (g.S.States.tests t.states)) c.args.sizes.now.items c.terms.sizes.items c.args.terms.items
+    first_room (λ t. extent (g.S.States.tests t.states)) c.args.extents.now.items c.terms.extents.items c.args.terms.items
     (into_iter_items c.terms.term-iterator)
-    (into_iter_items c.next.new.self) c.in-Some.term here c.terms.invariant.sizes
+    (into_iter_items c.next.new.self) c.in-Some.term here c.terms.invariant.extents
 
 pub push_at-requires-in-terms-2 : goal.push_at-requires-in-terms-2
 push_at-requires-in-terms-2 g c =
@@ -65,13 +65,13 @@ terms-preserved g c =
           c.args.terms.items (into_iter_items c.terms.term-iterator) (into_iter_items c.next.new.self) c.in-Some.term
           here c.push_at-in-terms-2.ensures.here c.push_at-in-terms-2.ensures.others c.push_at-in-terms-2.ensures.room
           c.terms.invariant.sets;
-      sizes =
-          entering_more (λ t. size (g.S.States.tests t.states)) c.args.sizes.now.items c.terms.sizes.items
+      extents =
+          entering_more (λ t. extent (g.S.States.tests t.states)) c.args.extents.now.items c.terms.extents.items
           c.push_at-in-terms.new.rows.items c.args.terms.items (into_iter_items c.terms.term-iterator)
           (into_iter_items c.next.new.self) c.in-Some.term here
           (subst (λ n. row_at c.push_at-in-terms.new.rows.items c.in-Some.term.vertex
-          ≡ row_at c.terms.sizes.items c.in-Some.term.vertex ++ n ∷ []) c.count.ensures c.push_at-in-terms.ensures.here)
-          c.push_at-in-terms.ensures.others c.push_at-in-terms.ensures.room c.terms.invariant.sizes;
+          ≡ row_at c.terms.extents.items c.in-Some.term.vertex ++ n ∷ []) c.extent_of.ensures c.push_at-in-terms.ensures.here)
+          c.push_at-in-terms.ensures.others c.push_at-in-terms.ensures.room c.terms.invariant.extents;
     }
 
 pub returns-clause-ids : goal.returns-clause-ids
@@ -88,9 +88,9 @@ returns-clause-sets g c =
     entering_last (λ t. t.states) c.args.sets.now.items c.terms.sets.items c.args.terms.items
     (into_iter_items c.terms.term-iterator) none c.terms.invariant.sets
 
-pub returns-clause-sizes : goal.returns-clause-sizes
-returns-clause-sizes g c =
+pub returns-clause-extents : goal.returns-clause-extents
+returns-clause-extents g c =
     let none : into_iter_items c.terms.term-iterator ≡ [] = none_left (into_iter_len c.terms.term-iterator)
     (into_iter_items c.terms.term-iterator) c.terms.invariant.counted c.in-None.ensures.steps.0 in
-    entering_last (λ t. size (g.S.States.tests t.states)) c.args.sizes.now.items c.terms.sizes.items c.args.terms.items
-    (into_iter_items c.terms.term-iterator) none c.terms.invariant.sizes
+    entering_last (λ t. extent (g.S.States.tests t.states)) c.args.extents.now.items c.terms.extents.items c.args.terms.items
+    (into_iter_items c.terms.term-iterator) none c.terms.invariant.extents

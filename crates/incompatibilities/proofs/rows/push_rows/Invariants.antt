@@ -1,5 +1,5 @@
 use Rattle.std.proofs.Common.{◌≡◌, length}
-use Rattle.version_sets.specs.Sets.{size}
+use Rattle.incompatibilities.specs.Stores.{extent}
 use Rattle.std.specs.Vec.Iter.{into_iter_items, into_iter_len}
 use Rattle.incompatibilities.proofs.RowLemmas.{IsEntering}
 use Rattle.incompatibilities.proofs.rows.push_rows.Given as goal
@@ -13,6 +13,6 @@ invariant-terms g l =
       ids : IsEntering (λ t. l.id) l.fn.ids.items l.ids.items l.fn.terms.items (into_iter_items l.term-iterator);
       sets : IsEntering (λ t. t.states) l.fn.sets.items l.sets.items l.fn.terms.items
           (into_iter_items l.term-iterator);
-      sizes : IsEntering (λ t. size (g.S.States.tests t.states)) l.fn.sizes.items l.sizes.items l.fn.terms.items
+      extents : IsEntering (λ t. extent (g.S.States.tests t.states)) l.fn.extents.items l.extents.items l.fn.terms.items
           (into_iter_items l.term-iterator);
     }
