@@ -1,4 +1,4 @@
--- The classes of what is matched, found by hops: what follows in a class that is found adds nothing.
+-- The classes of what passes, found by hops: what follows in a class that is found adds nothing.
 use Rattle.std.proofs.Common.{◌≡◌, ◌<◌, ◌-◌, suc, Bool, true, false, not, cond, List, [], ◌∷◌, ◌++◌, length, map}
 use Rattle.std.proofs.Common.{filter, take, drop, get_or, refl, sym, ap, ◌∙◌, subst, arith}
 use Rattle.std.specs.List.{All}
@@ -7,14 +7,14 @@ use Rattle.std.proofs.lemmas.List.{take_rest}
 use Rattle.semver.specs.Eval.{precedence_cmp}
 use Rattle.semver.specs.EvalViews.{matches_views}
 use Rattle.semver.specs.Identifiers.{parts_of}
-use Rattle.semver.specs.Parse.{Held}
+use Rattle.semver.specs.Parse.{Held, Parts}
 use Rattle.semver.specs.declared.Version.{Version}
 use Rattle.model.specs.Axioms.{is_lower}
 use Rattle.model.specs.Selection.{Class, class_of}
 use Rattle.model.specs.Vertices.{same_class}
 use Rattle.model.proofs.Lists.{all_first, all_rest, pairs_rest}
 use Rattle.model.proofs.Same.{class-same}
-use Rattle.classes.specs.Groups.{classes_matched, each_once}
+use Rattle.classes.specs.Groups.{each_once}
 use Rattle.lookups.specs.inner.Ranges.{AreRising, is_above}
 use Rattle.lookups.proofs.Pieces.{apart_above, classes_rise, neither}
 
@@ -52,7 +52,7 @@ onto f (z ∷ xs) x ys = ap (λ l. f z ∷ l) (onto f xs x ys)
 
 module _ {X : Type 0} (p q : X → Bool) where
   -- in either order
-  either_first : (xs : List X) → filter p (filter q xs) ≡ filter q (filter p xs)
+  pub either_first : (xs : List X) → filter p (filter q xs) ≡ filter q (filter p xs)
   either_first [] = refl
   either_first (x ∷ xs) = by (p x) (q x) refl refl (either_first xs)
     where
@@ -77,7 +77,7 @@ module _ {X : Type 0} (p q : X → Bool) where
           ap (λ b. filter p (cond b (x ∷ filter q xs) (filter q xs))) f ∙ rest
           ∙ sym (ap (λ b. filter q (cond b (x ∷ filter p xs) (filter p xs))) e)
 
-twice : {X : Type 0} (p : X → Bool) (xs : List X) → filter p (filter p xs) ≡ filter p xs
+pub twice : {X : Type 0} (p : X → Bool) (xs : List X) → filter p (filter p xs) ≡ filter p xs
 twice p [] = refl
 twice p (x ∷ xs) = by (p x) refl (twice p xs)
   where
@@ -88,24 +88,24 @@ twice p (x ∷ xs) = by (p x) refl (twice p xs)
 
 -- ---- what a class adds
 
-abbrev without : Class → List Class → List Class
+abbrev pub without : Class → List Class → List Class
 without k ks = filter (λ c. not (same_class k c)) ks
 
-module _ (cs : List Held) where
+module _ (t : Parts → Bool) where
   abbrev pub found : List Version → List Class
-  found vs = classes_matched cs (map parts_of vs)
+  found vs = each_once (map class_of (filter t (map parts_of vs)))
 
-  -- the classes where one more is matched, or isn't
+  -- the classes where one more passes, or doesn't
   abbrev found_with : Bool → Version → List Version → List Class
   found_with b v vs = each_once (map class_of (cond b
-      (parts_of v ∷ filter (λ w. matches_views cs w) (map parts_of vs))
-      (filter (λ w. matches_views cs w) (map parts_of vs))))
+      (parts_of v ∷ filter t (map parts_of vs))
+      (filter t (map parts_of vs))))
 
   -- of versions that aren't below a class those above it have the other classes
   others_of : (k : Class) (vs : List Version) → All (λ v. is_lower (class_of (parts_of v)) k ≡ false) vs
       → found (filter (λ v. is_above k (parts_of v)) vs) ≡ without k (found vs)
   others_of k [] not_below = refl
-  others_of k (v ∷ vs) not_below = by (matches_views cs (parts_of v)) (is_above k (parts_of v)) refl refl
+  others_of k (v ∷ vs) not_below = by (t (parts_of v)) (is_above k (parts_of v)) refl refl
       (others_of k vs (all_rest (λ v. is_lower (class_of (parts_of v)) k ≡ false) v vs not_below))
     where
       c : Class
@@ -118,7 +118,7 @@ module _ (cs : List Held) where
       here e = subst (λ d. without k (without d (found vs)) ≡ without k (found vs)) (class-same k c e)
           (twice (λ d. not (same_class k d)) (found vs))
 
-      by : (m b : Bool) → matches_views cs (parts_of v) ≡ m → is_above k (parts_of v) ≡ b
+      by : (m b : Bool) → t (parts_of v) ≡ m → is_above k (parts_of v) ≡ b
           → found above ≡ without k (found vs)
           → found (cond b (v ∷ above) above) ≡ without k (found_with m v vs)
       by false true e f rest = ap (λ m. found_with m v above) e ∙ rest
@@ -135,13 +135,13 @@ module _ (cs : List Held) where
           ∙ sym (ap (λ b. cond (not b) (c ∷ without k (without c (found vs))) (without k (without c (found vs)))) s)
 
   pub passed : (vs : List Version) → 0 < length vs → (v : Version) → v ≡ get_or vs 0 v
-      → matches_views cs (parts_of v) ≡ false → found (later_than_first vs) ≡ found vs
+      → t (parts_of v) ≡ false → found (later_than_first vs) ≡ found vs
   passed [] some v is e = absurd (omega (arith, some))
   passed (w ∷ ws) some v is e = ap found (take_rest (w ∷ ws) 1)
-      ∙ ap (λ m. found_with m w ws) (sym (ap (λ u. matches_views cs (parts_of u)) (sym is) ∙ e))
+      ∙ ap (λ m. found_with m w ws) (sym (ap (λ u. t (parts_of u)) (sym is) ∙ e))
 
   pub taken : (vs : List Version) → 0 < length vs → (v : Version) → v ≡ get_or vs 0 v → AreRising vs
-      → matches_views cs (parts_of v) ≡ true
+      → t (parts_of v) ≡ true
       → class_of (parts_of v)
       ∷ found (filter (λ w. is_above (class_of (parts_of v)) (parts_of w)) (later_than_first vs))
       ≡ found vs
@@ -153,7 +153,7 @@ module _ (cs : List Held) where
       (ap (λ ls. k ∷ found (filter (λ u. is_above k (parts_of u)) ls)) (take_rest (w ∷ ws) 1)
       ∙ ap (λ ks. k ∷ ks) (others_of k ws (λ n d within. classes_rise (parts_of w) (parts_of (get_or ws n d))
       (rising 0 (suc n) d (omega arith) (omega arith))))
-      ∙ ap (λ m. found_with m w ws) (sym (ap (λ u. matches_views cs (parts_of u)) (sym is) ∙ e)))
+      ∙ ap (λ m. found_with m w ws) (sym (ap (λ u. t (parts_of u)) (sym is) ∙ e)))
     where
       k : Class
       k = class_of (parts_of w)
@@ -161,5 +161,27 @@ module _ (cs : List Held) where
 -- where the same are matched, the classes are the same
 pub same_found : (cs : List Held) (vs ws : List Version)
     → filter (matches_views cs) (map parts_of vs) ≡ filter (matches_views cs) (map parts_of ws)
-    → found cs vs ≡ found cs ws
+    → found (matches_views cs) vs ≡ found (matches_views cs) ws
 same_found cs vs ws same = ap (λ ps. each_once (map class_of ps)) same
+
+-- ---- all classes
+
+abbrev pub every : List Version → List Class
+every vs = each_once (map class_of (map parts_of vs))
+
+all_kept : (ps : List Parts) → filter (λ p. true) ps ≡ ps
+all_kept [] = refl
+all_kept (p ∷ ps) = ap (λ qs. p ∷ qs) (all_kept ps)
+
+found_all : (vs : List Version) → found (λ p. true) vs ≡ every vs
+found_all vs = ap (λ ps. each_once (map class_of ps)) (all_kept (map parts_of vs))
+
+-- that of the first, and those of the versions above it
+pub first_and_above : (vs : List Version) → 0 < length vs → (v : Version) → v ≡ get_or vs 0 v → AreRising vs
+    → class_of (parts_of v)
+    ∷ every (filter (λ w. is_above (class_of (parts_of v)) (parts_of w)) (later_than_first vs))
+    ≡ every vs
+first_and_above vs some v is rising =
+    let k = class_of (parts_of v) in
+    ap (λ ks. k ∷ ks) (sym (found_all (filter (λ w. is_above k (parts_of w)) (later_than_first vs))))
+    ∙ taken (λ p. true) vs some v is rising refl ∙ found_all vs

@@ -11,3 +11,4 @@ pub mod Kept
 pub mod ByNames
 pub mod Convex
 pub mod Hops
+pub mod Runs

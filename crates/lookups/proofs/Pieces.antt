@@ -47,7 +47,7 @@ lower_first (major a) (major b) (major n) h l = let x = ltb-false b a h in let y
     ltb-true b n l in lt-ltb a n (omega arith)
 
 -- .. and the other is above what it is above
-lower_last : (k c d : Class) → is_lower d c ≡ false → is_lower k c ≡ true → is_lower k d ≡ true
+pub lower_last : (k c d : Class) → is_lower d c ≡ false → is_lower k c ≡ true → is_lower k d ≡ true
 lower_last k c d h l = by (is_lower k d) refl
   where
     by : (b : Bool) → is_lower k d ≡ b → b ≡ true
@@ -123,7 +123,7 @@ module _ {X : Type 0} (p : X → Bool) where
       ap (λ b. cond b (x ∷ filter p xs) (filter p xs)) (h 0 x (omega arith) (omega arith))
       ∙ skipped xs i (λ k d low within. h (suc k) d (omega (arith, low)) (omega (arith, within)))
 
-  kept : (xs : List X) (j : ℕ) → j ≤ length xs → ((k : ℕ) (d : X) → k < j → p (get_or xs k d) ≡ true)
+  pub kept : (xs : List X) (j : ℕ) → j ≤ length xs → ((k : ℕ) (d : X) → k < j → p (get_or xs k d) ≡ true)
       → ((k : ℕ) (d : X) → j ≤ k → k < length xs → p (get_or xs k d) ≡ false) → filter p xs ≡ take j xs
   kept [] zero few low high = refl
   kept [] (suc j) few low high = absurd (omega (arith, few))
@@ -137,13 +137,13 @@ module _ {X : Type 0} (p : X → Bool) where
       (λ k d more within. high (suc k) d (omega (arith, more)) (omega (arith, within))))
 
   -- where all pass from a place on, and none before it
-  all_pass : (xs : List X) → ((k : ℕ) (d : X) → k < length xs → p (get_or xs k d) ≡ true) → xs ≡ filter p xs
+  pub all_pass : (xs : List X) → ((k : ℕ) (d : X) → k < length xs → p (get_or xs k d) ≡ true) → xs ≡ filter p xs
   all_pass [] h = refl
   all_pass (x ∷ xs) h =
       ap (λ ys. x ∷ ys) (all_pass xs (λ k d within. h (suc k) d (omega (arith, within))))
       ∙ sym (ap (λ b. cond b (x ∷ filter p xs) (filter p xs)) (h 0 x (omega arith)))
 
-  from_there : (xs : List X) (i : ℕ) → ((k : ℕ) (d : X) → k < i → k < length xs → p (get_or xs k d) ≡ false)
+  pub from_there : (xs : List X) (i : ℕ) → ((k : ℕ) (d : X) → k < i → k < length xs → p (get_or xs k d) ≡ false)
       → ((k : ℕ) (d : X) → i ≤ k → k < length xs → p (get_or xs k d) ≡ true) → drop i xs ≡ filter p xs
   from_there [] zero low high = refl
   from_there [] (suc i) low high = refl

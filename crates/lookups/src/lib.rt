@@ -5,7 +5,8 @@
 //! so that who asks about a class looks at these alone. So are the ends between which a requirement can match
 //! (`within`), and whether it matches some version is known at the first that it matches; so are the classes in which
 //! it matches one (`classes_matched`). Where a class has no pre-release, those that it matches stand in one piece too
-//! (`matched_range`), and the others at the ends (`unmatched_ends`).
+//! (`matched_range`), and the others at the ends (`unmatched_ends`). Where a name has none, the classes in which it
+//! matches some stand in one piece among all that the name has (`class_range`, `all_classes`).
 //!
 //! Terms whose names lie in a derivation, in the manifest or in the index are `Term` (`term.rt`), and the one cause that
 //! the terms of a step can have is read off them (`kinds.rt`).
@@ -37,12 +38,12 @@ mod term;
 mod wants_feature;
 
 pub use cause::Cause;
-pub use classes_in::classes_matched;
+pub use classes_in::{all_classes, class_range, classes_matched};
 pub use compare::same_terms;
 pub use first_enabling::enables;
 pub use kinds::cause_in;
 pub use matching::{has_class, is_lacking, is_left, is_unmatched};
-pub use narrowing::{matched_range, unmatched_ends, within};
+pub use narrowing::{are_releases, matched_range, unmatched_ends, within};
 pub use numbers::Numbers;
 pub use owners::{brings, dependencies_of, dependency_at, entries_of, is_needed};
 pub use problem::Problem;

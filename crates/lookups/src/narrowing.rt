@@ -71,6 +71,19 @@ pub fn unmatched_ends<'a>(
     (&versions[..first], &rest[up_to_last(requirement, rest)..])
 }
 
+/// Whether none is a pre-release.
+pub fn are_releases(versions: &[Version]) -> bool
+    ensures { result ≡ list_all (λ v. is_release (parts_of v)) versions.now }
+{
+    versions.iter().all(|version| is_release(version))
+}
+
+fn is_release(version: &Version) -> bool
+    ensures { result ≡ is_release (parts_of version.now) }
+{
+    version.pre.is_empty()
+}
+
 /// Of versions that are oldest first, and all of them releases, those that are matched: from which place on, and up to
 /// which. None is told where a comparator leaves out a number before one that is there.
 pub fn matched_range(requirement: &VersionReq, versions: &[Version]) -> Option<(usize, usize)>
