@@ -1,6 +1,6 @@
 //! What requirements match, kept so that no requirement is matched twice against one name.
 
-ghost use Rattle.std.specs.Prelude.{◌≡◌, IfOk, IfSome, map};
+ghost use Rattle.std.specs.Prelude.{◌≡◌, ◌-◌, IfOk, IfSome, drop, map, take};
 ghost use Rattle.classes.specs.Classes.{class_view};
 ghost use Rattle.features.specs.Views.{dependency_view};
 ghost use Rattle.lookups.specs.inner.Views.{problem_view};
@@ -8,7 +8,7 @@ ghost use Rattle.model.specs.Vertices.{dep_classes, owner_brings};
 ghost use Rattle.vertices.specs.inner.RefViews.{owner_ref_view};
 ghost use Rattle.numbering.specs.inner.Called.{numbered_from, numbered_views};
 ghost use Rattle.numbering.specs.inner.IndexedViews.{problem_indexed};
-ghost use Rattle.numbering.specs.inner.Matched.{AreMatched};
+ghost use Rattle.numbering.specs.inner.Matched.{AreMatched, AreNamed, IsOfReleases, kept_classes, name_classes};
 ghost use Rattle.numbering.specs.inner.OnPackage.{on_package};
 
 use crate::asked::Asked;
@@ -18,22 +18,41 @@ use crate::table::Table;
 use catalogue::{Catalogue, catalogues_are_well_formed};
 use classes::Class;
 use features::{Dependency, DependencyParts, PackageName};
-use lookups::{Problem, class_versions, classes_matched, dependencies_of};
+use lookups::{
+    Problem, all_classes, are_releases, class_range, class_versions, classes_matched,
+    dependencies_of,
+};
 use manifest::Manifest;
 use semver::VersionReq;
 use std::alloc::{AllocError, Global};
 use std::collections::HashMap;
 use vertices::{OwnerRef, VertexRef};
 
+/// The classes in which a requirement matches some candidate of a name.
+#[derive(Drop)]
+pub(crate) enum Kept {
+    /// Of all classes of the name those from one place on and up to another. A name with n classes may have as many
+    /// requirements, each of which matches most of them: to keep them each by each would take n times as much.
+    Range { from: usize, to: usize },
+    Each(Vec<Class>),
+}
+
+/// From so many classes of a name on, ranges of them are kept.
+const MANY: usize = 64;
+
 /// By name and requirement, the classes of the candidates that are matched; and what owners bring, found by name.
 ///
+/// All classes of a name are kept where they are many, as a range of them takes a look-up more than a list, and none of
+/// its versions is a pre-release, as only there a range is told.
 /// Nothing but time rests on what is kept: what isn't is matched where it is asked for.
 #[derive(Drop)]
 pub struct Matched<'a> {
     pub(crate) problem: Problem<'a>,
-    pub(crate) classes: HashMap<(&'a PackageName, &'a VersionReq), Vec<Class>>,
+    pub(crate) classes: HashMap<(&'a PackageName, &'a VersionReq), Kept>,
+    pub(crate) names: HashMap<&'a PackageName, Option<Vec<Class>>>,
     indexed: Indexed<'a>,
     ghost are_matched: { AreMatched (problem_view problem) classes },
+    ghost are_named: { AreNamed (problem_view problem) names },
     ghost same_problem: { problem_indexed indexed ≡ problem_view problem },
 }
 
@@ -51,6 +70,7 @@ impl<'a> Matched<'a> {
                 catalogue,
             },
             classes: HashMap::new(alloc),
+            names: HashMap::new(alloc),
             indexed: Indexed::new(alloc, manifest, catalogue),
         }
     }
@@ -63,7 +83,27 @@ impl<'a> Matched<'a> {
         let requirement: &VersionReq = &dependency.requirement;
         let ask = (&dependency.real_name, requirement);
         match self.classes.get(&ask) {
-            Some(classes) => Some(classes.as_slice()),
+            Some(Kept::Range { from, to }) => self.between(&dependency.real_name, *from, *to),
+            Some(Kept::Each(classes)) => Some(classes.as_slice()),
+            None => None,
+        }
+    }
+
+    /// Of all classes of a name those from one place on and up to another, if they are kept.
+    fn between(&self, name: &'a PackageName, from: usize, to: usize) -> Option<&[Class]>
+        ensures { IfSome result (λ ks. map class_view ks.now
+            ≡ take (to - from) (drop from (name_classes (problem_of self.now) name.now))) }
+    {
+        self.all_of(name)?.get(from..to)
+    }
+
+    /// All classes of a name, lowest first, if none of its versions is a pre-release and they are kept.
+    fn all_of(&self, name: &'a PackageName) -> Option<&[Class]>
+        ensures { IfSome result (λ ks. IsOfReleases (problem_of self.now) name.now ks.now) }
+    {
+        match self.names.get(&name) {
+            Some(Some(classes)) => Some(classes.as_slice()),
+            Some(None) => None,
             None => None,
         }
     }
@@ -183,12 +223,86 @@ impl<'a> Matched<'a> {
         if self.classes(dependency).is_some() {
             return Ok(());
         }
-        let classes = match_anew(alloc, &self.problem, dependency)?;
+        self.keep_all_of(alloc, &dependency.real_name)?;
+        let kept = self.match_once(alloc, dependency)?;
         let requirement: &VersionReq = &dependency.requirement;
         let ask = (&dependency.real_name, requirement);
-        self.classes.insert(ask, classes)?;
+        self.classes.insert(ask, kept)?;
         Ok(())
     }
+
+    /// Finds all classes of a name, if it wasn't done before.
+    fn keep_all_of(&mut self, alloc: Global, name: &'a PackageName) -> Result<(), AllocError>
+        ensures { problem_of self.new ≡ problem_of self.old }
+    {
+        if self.names.contains_key(&name) {
+            return Ok(());
+        }
+        let classes = release_classes(alloc, &self.problem, name)?;
+        self.names.insert(name, classes)?;
+        Ok(())
+    }
+
+    /// What to keep of a dependency.
+    fn match_once(&self, alloc: Global, dependency: &'a DependencyParts) -> Result<Kept, AllocError>
+        ensures { IfOk result (λ kept.
+            kept_classes (name_classes (problem_of self.now) (dependency_view dependency.now).real_name) kept
+            ≡ dep_classes (problem_of self.now) (dependency_view dependency.now)) }
+    {
+        match self.range_of(dependency) {
+            Some((from, to)) => Ok(Kept::Range { from, to }),
+            None => Ok(Kept::Each(match_anew(alloc, &self.problem, dependency)?)),
+        }
+    }
+
+    /// Where among all classes of its name those lie to which a dependency may lead, if it can be told.
+    fn range_of(&self, dependency: &'a DependencyParts) -> Option<(usize, usize)>
+        ensures { IfSome result (λ r.
+            take (r.1 - r.0) (drop r.0 (name_classes (problem_of self.now) (dependency_view dependency.now).real_name))
+            ≡ dep_classes (problem_of self.now) (dependency_view dependency.now)) }
+    {
+        let classes = self.all_of(&dependency.real_name)?;
+        range_among(&self.problem, dependency, classes)
+    }
+}
+
+/// Where among all classes of its name those lie to which a dependency may lead: from which place on and up to which,
+/// if that can be told.
+fn range_among(
+    problem: &Problem<'_>,
+    dependency: &DependencyParts,
+    classes: &[Class],
+) -> Option<(usize, usize)>
+    requires { IsOfReleases (problem_view problem.now) (dependency_view dependency.now).real_name classes.now }
+    ensures { IfSome result (λ r. map class_view (take (r.1 - r.0) (drop r.0 classes.now))
+        ≡ dep_classes (problem_view problem.now) (dependency_view dependency.now)) }
+{
+    catalogues_are_well_formed(problem.manifest, problem.catalogue);
+    let requirement: &VersionReq = &dependency.requirement;
+    let versions = problem.catalogue.versions(&dependency.real_name);
+    class_range(requirement, versions, classes)
+}
+
+/// All classes of a name, lowest first, if they are many and none of its versions is a pre-release.
+fn release_classes(
+    alloc: Global,
+    problem: &Problem<'_>,
+    name: &PackageName,
+) -> Result<Option<Vec<Class>>, AllocError>
+    ensures { IfOk result (λ o. IfSome o (λ ks. IsOfReleases (problem_view problem.now) name.now ks.items)) }
+{
+    let versions = problem.catalogue.versions(name);
+    if versions.len() < MANY {
+        return Ok(None);
+    }
+    if !are_releases(versions) {
+        return Ok(None);
+    }
+    let classes = all_classes(alloc, versions)?;
+    if classes.len() < MANY {
+        return Ok(None);
+    }
+    Ok(Some(classes))
 }
 
 /// The owner that a vertex is in a state: the root where it is present, a version where it is chosen.
