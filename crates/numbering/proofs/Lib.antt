@@ -23,6 +23,7 @@ pub mod CalledLaws
 pub mod OnPackageLaws
 pub mod AskedLaws
 pub mod AddLaws
+pub mod StateNumbers
 pub mod Stated
 pub mod Adds
 pub mod Requirements

@@ -83,6 +83,12 @@ classes_counted q o i ks are =
     one ∙ ap suc (sym (length-map ks class_view) ∙ ap (λ (l : List Class). length l) are
     ∙ sym (length-map (classes_at q o i) in_class)) ∙ ap (λ (ss : List State). length ss) (classes_space q o i)
 
+pub classes_long : (q : Problem) (o : Owner) (i : ℕ) → length (classes_at q o i) + 1 ≡ length (space q (dep o i))
+classes_long q o i =
+    let one : length (classes_at q o i) + 1 ≡ suc (length (classes_at q o i)) = omega arith in
+    one ∙ ap suc (sym (length-map (classes_at q o i) in_class))
+    ∙ ap (λ (ss : List State). length ss) (classes_space q o i)
+
 -- every space has absent
 pub some_states : (q : Problem) (v : Vertex) → 1 ≤ length (space q v)
 some_states q root = omega arith

@@ -81,7 +81,7 @@ pub use noted::Noted;
 pub use owners::dependency_at;
 pub use pair_axioms::{axioms_at, axioms_of, first_axioms_at, next_axioms_at};
 pub use pair_causes::causes_at;
-pub use possible_classes::classes_of;
+pub use possible_classes::{class_number, classes_of};
 pub use spaces::{space_at, space_of, spaces_are_small};
 pub use states::{state_at, states_of};
 pub use table::Table;

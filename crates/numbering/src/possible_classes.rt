@@ -1,9 +1,9 @@
 //! The classes that dependencies may lead to.
 
-ghost use Rattle.std.specs.Prelude.{◌≡◌, ◌∷◌, true, false, map, IfOk};
+ghost use Rattle.std.specs.Prelude.{◌≡◌, ◌∷◌, suc, true, false, length, map, option_map, position, IfOk};
 ghost use Rattle.classes.specs.Classes.{class_view};
 ghost use Rattle.features.specs.Views.{dependency_view};
-ghost use Rattle.model.specs.Vertices.{dep_classes};
+ghost use Rattle.model.specs.Vertices.{dep_classes, same_class};
 ghost use Rattle.refutations.specs.inner.Listed.{classes_at};
 ghost use Rattle.numbering.specs.inner.KnownProblem.{problem};
 ghost use Rattle.numbering.specs.inner.TestedTerms.{is_class, states_view};
@@ -11,7 +11,7 @@ ghost use Rattle.vertices.specs.inner.RefViews.{owner_ref_view};
 
 use crate::known_problem::KnownProblem;
 use crate::owners::dependency_at;
-use crate::space_tests::{Tests, class_tests, no_class};
+use crate::space_tests::{Tests, class_tests, first_state, no_class};
 use catalogue::catalogues_are_well_formed;
 use classes::Class;
 use features::DependencyParts;
@@ -44,6 +44,39 @@ pub fn classes_of<'a>(
         (λ ks. map class_view ks.items ≡ dep_classes (problem known.now) (dependency_view dependency.now)) }
 {
     known.matched.classes_of(alloc, dependency)
+}
+
+/// How many classes a dependency of an owner may lead to.
+pub(crate) fn class_count(
+    alloc: Global,
+    known: &KnownProblem<'_>,
+    owner: &OwnerRef<'_>,
+    number: usize,
+) -> Result<usize, AllocError>
+    ensures { IfOk result (λ n. n ≡ length (classes_at (problem known.now) (owner_ref_view owner.now) number)) }
+{
+    let Some(dependency) = dependency_at(known, owner, number) else {
+        return Ok(0);
+    };
+    // A copy of those that are kept would cost as much as they are, for each dependency that shares them.
+    if let Some(classes) = known.matched.classes(dependency) {
+        return Ok(classes.len());
+    }
+    Ok(classes_of(alloc, known, dependency)?.len())
+}
+
+/// The number of a class among the states of a dependency, where it is one of those to which the dependency may lead.
+pub fn class_number<'a>(
+    alloc: Global,
+    known: &KnownProblem<'a>,
+    dependency: &'a DependencyParts,
+    class: Class,
+) -> Result<Option<usize>, AllocError>
+    ensures { IfOk result (λ o. o ≡ option_map suc (position (λ k. same_class k (class_view class))
+        (dep_classes (problem known.now) (dependency_view dependency.now)))) }
+{
+    let tests = class_alone(alloc, known, dependency, class)?;
+    Ok(first_state(&tests))
 }
 
 /// Of a dependency's states, that it leads to the class.

@@ -1,8 +1,8 @@
 //! Sets of a vertex's states, as tests of its space: absent first, then the versions or classes in their order.
 
 ghost use Rattle.std.specs.Prelude.{◌≡◌, ◌∷◌, ◌++◌, ◌+◌, ◌-◌, ◌<◌, ◌≤◌, ◌^◌, true, false, if◌then◌else◌, length, not};
-ghost use Rattle.std.specs.Prelude.{map, replicate, IfOk, IfSome, OnOk};
-ghost use Rattle.std.specs.List.{AllPairs, list_all};
+ghost use Rattle.std.specs.Prelude.{map, position, replicate, IfOk, IfSome};
+ghost use Rattle.std.specs.List.{AllPairs};
 ghost use Rattle.std.specs.List.Sorted.{IsPartitionPoint};
 ghost use Rattle.std.specs.Ordering.{is_lt};
 ghost use Rattle.semver.specs.Identifiers.{parts_of};
@@ -13,7 +13,7 @@ ghost use Rattle.model.specs.Axioms.{is_lower};
 ghost use Rattle.model.specs.Order.{precedence};
 ghost use Rattle.model.specs.Summary.{has_feature};
 ghost use Rattle.numbering.specs.inner.TestedTerms.{is_chosen, is_class, states_view};
-ghost use Rattle.lookups.specs.inner.Matching.{is_left, is_release, tests_of_range};
+ghost use Rattle.lookups.specs.inner.Matching.{is_left, tests_of_range};
 ghost use Rattle.lookups.specs.inner.Ranges.{AreRising};
 ghost use Rattle.semver.specs.EvalViews.{matches_views};
 ghost use Rattle.version_sets.specs.Sets.{has, none, only};
@@ -21,7 +21,7 @@ ghost use Rattle.version_sets.specs.Sets.{has, none, only};
 use catalogue::Candidate;
 use classes::{Class, is_matched};
 use features::FeatureName;
-use lookups::{is_left, matched_range};
+use lookups::{are_releases, is_left, matched_range};
 use semver::{Version, VersionReq};
 use std::alloc::{AllocError, Global};
 
@@ -97,18 +97,6 @@ fn range_among(requirement: &VersionReq, versions: &[Version]) -> Option<(usize,
     }
 }
 
-fn are_releases(versions: &[Version]) -> bool
-    ensures { result ≡ list_all (λ v. is_release (parts_of v)) versions.now }
-{
-    versions.iter().all(|version| is_release(version))
-}
-
-fn is_release(version: &Version) -> bool
-    ensures { result ≡ is_release (parts_of version.now) }
-{
-    version.pre.is_empty()
-}
-
 /// Of a state before so many places, and these: whether each lies from one place on and up to another, or whether it
 /// doesn't.
 fn range_tests(
@@ -120,26 +108,16 @@ fn range_tests(
 ) -> Result<Vec<bool>, AllocError>
     requires begins { from ≤ to }
     requires ends { to ≤ count }
+    requires few { count < 2 ^ 63 }
     ensures { IfOk result (λ v. v.items
         ≡ not inside ∷ (replicate from (not inside)
         ++ (replicate (to - from) inside ++ replicate (count - to) (not inside)))) }
 {
-    let mut tests = Vec::with_capacity(alloc, count.saturating_add(1))?;
-    tests.push(!inside)?;
-    push_same(&mut tests, from, !inside)?;
-    push_same(&mut tests, to - from, inside)?;
-    push_same(&mut tests, count - to, !inside)?;
+    let mut tests = Vec::with_capacity(alloc, count + 1)?;
+    tests.resize(from + 1, !inside)?;
+    tests.resize(to + 1, inside)?;
+    tests.resize(count + 1, !inside)?;
     Ok(tests)
-}
-
-/// Adds one test so many times.
-fn push_same(tests: &mut Vec<bool>, count: usize, test: bool) -> Result<(), AllocError>
-    ensures { OnOk result (tests.new.items ≡ tests.old.items ++ replicate count test) }
-{
-    'places: for _ in 0..count {
-        tests.push(test)?;
-    }
-    Ok(())
 }
 
 fn each_left(
@@ -192,6 +170,17 @@ pub(crate) fn lacking_tests(
         near = place.unwrap_or(near);
     }
     Ok(tests)
+}
+
+/// The first state that a term has.
+pub(crate) fn first_state(tests: &Tests) -> Option<usize>
+    ensures { result ≡ position (λ b. b) (states_view tests.now) }
+{
+    match tests {
+        Tests::Each(tests) => tests.iter().position(|test| *test),
+        Tests::One { states, state } if state < states => Some(*state),
+        Tests::One { .. } => None,
+    }
 }
 
 /// Absent alone.

@@ -7,7 +7,7 @@ ghost use Rattle.numbering.specs.inner.KnownProblem.{problem};
 ghost use Rattle.vertices.specs.inner.RefViews.{owner_ref_view, vertex_ref_view};
 
 use crate::known_problem::KnownProblem;
-use crate::possible_classes::classes_at;
+use crate::possible_classes::class_count;
 use crate::table::Table;
 use classes::Class;
 use features::PackageName;
@@ -89,6 +89,5 @@ fn classes_counted(
     ensures { IfOk result (λ n. n ≡ length (space (problem known.now) (dep (owner_ref_view owner.now) dependency))) }
 {
     spaces_are_small(known);
-    let classes = classes_at(alloc, known, owner, dependency)?;
-    Ok(classes.len() + 1)
+    Ok(class_count(alloc, known, owner, dependency)? + 1)
 }

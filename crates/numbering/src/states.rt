@@ -1,6 +1,6 @@
 //! The states of vertices by their numbers: absent is 0, the others follow in the order of the space.
 
-ghost use Rattle.std.specs.Prelude.{◌≡◌, ◌++◌, ◌∷◌, [], IfOk, map, slice_get, unwrap_or};
+ghost use Rattle.std.specs.Prelude.{◌≡◌, ◌∷◌, [], IfOk, map, slice_get, unwrap_or};
 ghost use Rattle.semver.specs.Identifiers.{parts_of};
 ghost use Rattle.classes.specs.Classes.{class_view};
 ghost use Rattle.model.specs.Vertices.{absent, dep, in_class, pkg, present, space, version};
@@ -9,7 +9,8 @@ ghost use Rattle.numbering.specs.inner.KnownProblem.{problem};
 ghost use Rattle.vertices.specs.inner.RefViews.{owner_ref_view, state_ref_view, state_ref_views, vertex_ref_view};
 
 use crate::known_problem::KnownProblem;
-use crate::possible_classes::classes_at;
+use crate::owners::dependency_at;
+use crate::possible_classes::{classes_at, classes_of};
 use classes::Class;
 use features::PackageName;
 use lookups::class_versions;
@@ -61,7 +62,14 @@ fn class_state<'a>(
     ensures { IfOk result
         (λ s. state_ref_view s ≡ state_at (problem known.now) (dep (owner_ref_view owner.now) dependency) number) }
 {
-    let classes = classes_at(alloc, known, owner, dependency)?;
+    let Some(dependency) = dependency_at(known, owner, dependency) else {
+        return Ok(class_at(&[], number));
+    };
+    // A copy of those that are kept would cost as much as they are.
+    if let Some(classes) = known.matched.classes(dependency) {
+        return Ok(class_at(classes, number));
+    }
+    let classes = classes_of(alloc, known, dependency)?;
     Ok(class_at(classes.as_slice(), number))
 }
 
