@@ -10,8 +10,6 @@ use Rattle.std.proofs.lemmas.List.{length-map}
 use Rattle.std.proofs.lemmas.List.Quantifiers.{position-Some}
 use Rattle.std.proofs.lemmas.Option.{none-some, same_Some, slice_get-get_or, slice_get-map}
 use Rattle.semver.specs.Identifiers.{parts_of}
-use Rattle.classes.specs.Classes.{class_view}
-use Rattle.classes.specs.declared.class.Class as code
 use Rattle.lockfile.specs.inner.Views.{package_view, package_views}
 use Rattle.lockfile.specs.declared.package.Package as locked
 use Rattle.model.specs.Content as model
@@ -139,42 +137,48 @@ module _ (q : Problem) (content : Content) (valid : IsValidSelection q content) 
         inner : (x y : Class) → in_class x ≡ in_class y → x ≡ y
         inner x y e = cc
 
-    module _ (ks : List code.Class) (are : map class_view ks ≡ dep_classes q d) where
-      -- the states of the dependency are absent and these classes
-      states_are : space q (dep o i) ≡ absent ∷ map in_class (map class_view ks)
-      states_are = ap (dep_space q) (sym got) ∙ ap (λ xs. absent ∷ map in_class xs) (sym are)
+    -- the states of the dependency are absent and its classes
+    states_are : space q (dep o i) ≡ absent ∷ map in_class (dep_classes q d)
+    states_are = ap (dep_space q) (sym got)
 
-      counted : length (space q (dep o i)) ≡ suc (length ks)
-      counted = ap (λ (ss : List State). length ss) states_are
-          ∙ ap suc (length-map (map class_view ks) in_class ∙ length-map ks class_view)
+    counted : length (space q (dep o i)) ≡ suc (length (dep_classes q d))
+    counted = ap (λ (ss : List State). length ss) states_are ∙ ap suc (length-map (dep_classes q d) in_class)
 
-      pub few_classes : length (space q (dep o i)) ≤ 65536 → length ks ≤ 65535
-      few_classes few = omega (arith, few, counted)
+    pub few_classes : (k : Class) (n : ℕ)
+        → Some n ≡ option_map (λ x. suc x) (position (λ m. same_class m k) (dep_classes q d))
+        → length (space q (dep o i)) ≤ 65536 → n ≤ 65535
+    few_classes k n e few = by (position (λ m. same_class m k) (dep_classes q d)) refl e
+      where
+        by : (r : Option ℕ) → position (λ m. same_class m k) (dep_classes q d) ≡ r
+            → Some n ≡ option_map (λ x. suc x) r → n ≤ 65535
+        by None is e = absurd (none-some n (sym e))
+        by (Some j) is e =
+            let within = (position-Some (λ m. same_class m k) (dep_classes q d) j k is).0 in
+            let same : n ≡ suc j = same_Some n (suc j) e in
+            omega (arith, few, counted, within, same)
 
-      numbered : (k : Class) → Contains (dep_classes q d) k → IsNumberOf q (dep o i) (in_class k)
-          (option_map (λ x. suc x) (position (λ x. same_class k (class_view x)) ks))
-      numbered k c =
-          let r = in_map class_view ks k (subst (λ xs. Contains xs k) (sym are) c) in
-          let w = place (λ x. same_class k (class_view x)) ks r.0 r.1
-          (subst (λ x. same_class k x ≡ true) (sym r.2) (class-refl k)) in
-          let same : k ≡ class_view w.x = class-same k (class_view w.x) w.passes in
-          let read : slice_get (map in_class (map class_view ks)) w.i ≡ Some (in_class k) =
-          slice_get-map in_class (map class_view ks) w.i ∙ ap (option_map in_class)
-          (slice_get-map class_view ks w.i ∙ ap (option_map class_view) w.at ∙ ap Some (sym same)) in
-          let within = w.within in (
-            suc w.i,
-            ap (option_map (λ x. suc x)) w.is,
-            omega (arith, within, counted),
-            ap (λ ss. unwrap_or (slice_get ss (suc w.i)) absent) states_are ∙ ap (λ x. unwrap_or x absent) read,
-          )
+    numbered : (k : Class) → Contains (dep_classes q d) k → IsNumberOf q (dep o i) (in_class k)
+        (option_map (λ x. suc x) (position (λ m. same_class m k) (dep_classes q d)))
+    numbered k c =
+        let w = place (λ m. same_class m k) (dep_classes q d) k c (class-refl k) in
+        let same : w.x ≡ k = class-same w.x k w.passes in
+        let read : slice_get (map in_class (dep_classes q d)) w.i ≡ Some (in_class k) =
+        slice_get-map in_class (dep_classes q d) w.i ∙ ap (option_map in_class) (w.at ∙ ap Some same) in
+        let within = w.within in (
+          suc w.i,
+          ap (option_map (λ x. suc x)) w.is,
+          omega (arith, within, counted),
+          ap (λ ss. unwrap_or (slice_get ss (suc w.i)) absent) states_are ∙ ap (λ x. unwrap_or x absent) read,
+        )
 
-      pub one_led : (p : model.Package) (k : Class) → Some p ≡ led_to content o d → k ≡ class_of p.version
-          → IsStateIn q content (dep o i) (option_map (λ x. suc x) (position (λ x. same_class k (class_view x)) ks))
-      one_led p k e at s (n, t, f, r, l, is) =
-          let same : p ≡ r = same_Some p r (e ∙ led n t f r l) in
-          let state : in_class k ≡ s =
-          ap in_class at ∙ ap (λ (x : model.Package). in_class (class_of x.version)) same ∙ sym is in
-          let has = has_in_space q content valid (dep o i) s (n, t, f, r, l, is) in
-          subst (λ x. IsNumberOf q (dep o i) x
-          (option_map (λ x. suc x) (position (λ x. same_class k (class_view x)) ks))) state
-          (numbered k (may_lead k (subst (λ x. has_state (space q (dep o i)) x ≡ true) (sym state) has)))
+    pub one_led : (p : model.Package) (k : Class) → Some p ≡ led_to content o d → k ≡ class_of p.version
+        → IsStateIn q content (dep o i)
+        (option_map (λ x. suc x) (position (λ m. same_class m k) (dep_classes q d)))
+    one_led p k e at s (n, t, f, r, l, is) =
+        let same : p ≡ r = same_Some p r (e ∙ led n t f r l) in
+        let state : in_class k ≡ s =
+        ap in_class at ∙ ap (λ (x : model.Package). in_class (class_of x.version)) same ∙ sym is in
+        let has = has_in_space q content valid (dep o i) s (n, t, f, r, l, is) in
+        subst (λ x. IsNumberOf q (dep o i) x
+        (option_map (λ x. suc x) (position (λ m. same_class m k) (dep_classes q d)))) state
+        (numbered k (may_lead k (subst (λ x. has_state (space q (dep o i)) x ≡ true) (sym state) has)))

@@ -1,4 +1,4 @@
-//! The greatest state that is left to a vertex, and whether it is to be decided.
+//! A state that is left to a vertex, and whether it is to be decided.
 
 ghost use Rattle.std.specs.Prelude.{◌≡◌, ◌<◌, ◌≤◌, true, false};
 ghost use Rattle.std.specs.Bool.{OnFalse, OnTrue};
@@ -19,6 +19,17 @@ pub(crate) fn greatest<S: States>(set: &S) -> u32
         }
     }
     0
+}
+
+/// A number of a set that isn't empty: 0, else the greatest. Where one state is left, it mostly is absent or the newest.
+pub(crate) fn any_of<S: States>(set: &S) -> u32
+    requires { 0 < size (S.tests set.now) }
+    ensures { has (S.tests set.now) result ≡ true }
+{
+    if set.member(0) {
+        return 0;
+    }
+    greatest(set)
 }
 
 /// Whether a vertex with these states is to be decided: it can't be absent, and has several.

@@ -51,13 +51,21 @@ pub struct Encoded<'a, S: States> {
     order: Order,
     /// The vertex that comes next in this order.
     next: Option<usize>,
-    preferences: Preferences,
+    preferences: Preferences<'a>,
     /// What the version that is decided next needs.
     leads: Leads,
     /// The pairs whose first instances were brought, where a dependency isn't alone on its package.
     begun: BTreeSet<(usize, u32)>,
     /// So many more may be begun so. Each takes one off, by which the search is seen to end.
     to_begin: u64,
+}
+
+/// The vertex that is decided by preference: none where a content is followed, which says what each is decided for.
+fn unless_followed(follows: &Option<LockContent>, next: Option<usize>) -> Option<usize> {
+    match follows {
+        Some(_) => None,
+        None => next,
+    }
 }
 
 impl<'a, S: States> Model for Encoded<'a, S> {
@@ -381,10 +389,16 @@ impl<'a, S: States + Drop> Guide<S> for Encoded<'a, S> {
             None => {
                 self.order.follow(trail, self.asked.len())?;
                 self.next = self.order.next(trail, self.asked.len())?;
-                self.preferences
-                    .keep(self.alloc, &self.known, &self.table, self.next)?;
-                self.preferences
-                    .pass_over(trail, self.asked.len(), self.next);
+                let wanted = unless_followed(&self.follows, self.next);
+                let vertices = self.asked.len();
+                self.preferences.keep(
+                    self.alloc,
+                    &self.known,
+                    &self.table,
+                    trail,
+                    vertices,
+                    wanted,
+                )?;
                 let lead = self.leads.next(&self.asked);
                 match self.ahead(trail, lead)? {
                     Some((vertex, state)) => {

@@ -1,15 +1,15 @@
-//! The numbers of versions and of classes among the states of a vertex, where they follow absent.
+//! The number of a version among the states of a package, where the versions of a class follow absent.
 
-ghost use Rattle.std.specs.Prelude.{◌≡◌, ◌<◌, ◌≤◌, IfSome, true, suc, length, option_map, position};
+ghost use Rattle.std.specs.Prelude.{◌≡◌, true};
 ghost use Rattle.semver.specs.Identifiers.{parts_of};
 ghost use Rattle.classes.specs.Classes.{class_view};
-ghost use Rattle.model.specs.Vertices.{has_state, pkg, same_class, space};
+ghost use Rattle.model.specs.Vertices.{has_state, pkg, space};
 ghost use Rattle.model.specs.Vertices as model;
 ghost use Rattle.numbering.specs.inner.KnownProblem.{problem};
 ghost use Rattle.guiding.specs.inner.Found.{IsNumberOf};
 
 use catalogue::place_of;
-use classes::{Class, same_class};
+use classes::Class;
 use features::PackageName;
 use lookups::below;
 use numbering::KnownProblem;
@@ -31,21 +31,4 @@ pub(crate) fn version_number(
     let rest = &versions[below(class, versions)..];
     let place = place_of(rest, version)?;
     Some(place as u32 + 1)
-}
-
-/// The number of a class among the states of a dependency that may lead to these classes.
-pub(crate) fn class_number(classes: &[Class], class: Class) -> Option<u32>
-    requires { length classes.now ≤ 65535 }
-    ensures { result ≡ option_map suc (position (λ k. same_class (class_view class) (class_view k)) classes.now) }
-{
-    let place = class_place(classes, class)?;
-    Some(place as u32 + 1)
-}
-
-/// The place of a class.
-fn class_place(classes: &[Class], class: Class) -> Option<usize>
-    ensures place { result ≡ position (λ k. same_class (class_view class) (class_view k)) classes.now }
-    ensures within { IfSome result (λ i. i < length classes.now) }
-{
-    classes.iter().position(|other| same_class(&class, other))
 }

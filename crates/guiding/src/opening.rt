@@ -6,7 +6,7 @@ ghost use Rattle.propagation.specs.Trails.{trail_view};
 ghost use Rattle.guiding.specs.inner.Searching.{IsSeen};
 ghost use Rattle.guiding.specs.inner.Guides.{IsNextOpen, IsOpenAt, IsUnless, asked_of};
 
-use crate::states_left::least;
+use crate::choosing::any_of;
 use propagation::Trail;
 use version_sets::States;
 
@@ -33,7 +33,7 @@ fn open_at<S: States + Drop>(trail: &Trail<S>, asked: &[S], vertex: usize) -> Op
     if left.count() != 1 {
         return None;
     }
-    unless_asked(&asked[vertex], least(left))
+    unless_asked(&asked[vertex], any_of(left))
 }
 
 /// The next place's pair that stands alone and wasn't asked for; all places before it are seen.

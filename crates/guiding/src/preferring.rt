@@ -6,80 +6,136 @@ ghost use Rattle.version_sets.specs.Sets.{has, size};
 
 use crate::choosing::greatest;
 use classes::Class;
-use features::PackageName;
+use features::{DependencyParts, PackageName};
 use lookups::{below, of_class};
-use numbering::{KnownProblem, Table, classes_of, dependency_at};
+use numbering::{KnownProblem, Table, class_number, dependency_at};
 use propagation::Trail;
 use std::alloc::{AllocError, Global};
 use std::collections::HashMap;
 use version_sets::States;
-use vertices::{OwnerRef, VertexRef};
+use vertices::VertexRef;
 
-/// Of each vertex that was to be decided, its states with the most preferred first.
+/// Of each vertex that was to be decided, its states with the most preferred first, as far as they were needed.
 ///
-/// To find them anew for each decision takes up to a third of a search over packages with many classes.
+/// To find them anew for each decision takes up to a third of a search over packages with many classes, and to find all
+/// of them as much as there are dependencies times classes.
 #[derive(Drop)]
-pub(crate) struct Preferences {
+pub(crate) struct Preferences<'a> {
+    /// By name, the places of its candidates with the most preferred first.
+    orders: HashMap<&'a PackageName, Vec<u32>>,
+    /// By the number of a vertex.
     ranked: HashMap<usize, Ranked>,
 }
 
-/// States with the most preferred first.
+/// The first states, the most preferred first.
 #[derive(Drop)]
 struct Ranked {
     states: Vec<u32>,
     /// Those before this place are gone for good: to go over them each time takes the square of how many there are.
     from: usize,
+    /// They are those of so many candidates. The next ones are looked at once all these states are gone.
+    taken: usize,
 }
 
-impl Preferences {
+/// What a vertex is decided among.
+#[derive(Clone, Copy)]
+enum Choice<'a> {
+    /// The versions of a class, so many from a place on.
+    Versions { first: usize, count: usize },
+    /// The classes that a dependency may lead to.
+    Classes(&'a DependencyParts),
+}
+
+impl<'a> Preferences<'a> {
     /// Nothing is kept yet.
-    pub(crate) fn new(alloc: Global) -> Preferences {
+    pub(crate) fn new(alloc: Global) -> Preferences<'a> {
         Preferences {
+            orders: HashMap::new(alloc),
             ranked: HashMap::new(alloc),
         }
     }
 
-    /// Keeps the order of the vertex with this number, if there is one and it isn't kept.
-    pub(crate) fn keep(
+    /// Keeps the states of the vertex with this number, if there is one, up to the first that is left.
+    pub(crate) fn keep<S: States + Drop>(
         &mut self,
         alloc: Global,
-        known: &KnownProblem<'_>,
-        table: &Table<'_>,
-        number: Option<usize>,
-    ) -> Result<(), AllocError> {
-        let Some(number) = number else {
-            return Ok(());
-        };
-        if self.ranked.contains_key(&number) {
-            return Ok(());
-        }
-        let Some(vertex) = table.vertex(number) else {
-            return Ok(());
-        };
-        let states = by_preference(alloc, known, &vertex)?;
-        self.ranked.insert(number, Ranked { states, from: 0 })?;
-        Ok(())
-    }
-
-    /// At level 0, where nothing comes back, passes over the first states of the vertex with this number that are gone.
-    pub(crate) fn pass_over<S: States + Drop>(
-        &mut self,
+        known: &KnownProblem<'a>,
+        table: &Table<'a>,
         trail: &Trail<S>,
         vertices: usize,
         number: Option<usize>,
-    )
+    ) -> Result<(), AllocError>
         requires { vertices ≡ length (trail_view S.tests trail.now).sets }
     {
         let Some(number) = number else {
-            return;
+            return Ok(());
         };
-        if trail.level() > 0 || number >= vertices {
-            return;
+        if number >= vertices {
+            return Ok(());
         }
         let left = trail.states(number);
+        // Nothing comes back at level 0.
+        if trail.level() == 0 {
+            self.pass_over(number, left);
+        }
+        if self.first_left(number, left).is_some() {
+            return Ok(());
+        }
+        match table.vertex(number) {
+            Some(vertex) => self.go_on(alloc, known, &vertex, number, left),
+            None => Ok(()),
+        }
+    }
+
+    /// Passes over the first states of a vertex that are gone.
+    fn pass_over<S: States>(&mut self, number: usize, left: &S) {
         if let Some(ranked) = self.ranked.get_mut(&number) {
             ranked.from = first_place(ranked.states.as_slice(), ranked.from, left);
         }
+    }
+
+    /// Keeps more states of a vertex, up to the first that is left.
+    fn go_on<S: States>(
+        &mut self,
+        alloc: Global,
+        known: &KnownProblem<'a>,
+        vertex: &VertexRef<'a>,
+        number: usize,
+        left: &S,
+    ) -> Result<(), AllocError> {
+        let Some((name, choice)) = choice_of(known, vertex) else {
+            return Ok(());
+        };
+        self.begin(alloc, known, name, number)?;
+        match (self.orders.get(&name), self.ranked.get_mut(&number)) {
+            (Some(order), Some(ranked)) => {
+                ranked.extend(alloc, known, name, choice, order.as_slice(), left)
+            }
+            _ => Ok(()),
+        }
+    }
+
+    /// Keeps the order of a name's candidates, and no state of the vertex yet, where nothing is kept.
+    fn begin(
+        &mut self,
+        alloc: Global,
+        known: &KnownProblem<'a>,
+        name: &'a PackageName,
+        number: usize,
+    ) -> Result<(), AllocError> {
+        if !self.orders.contains_key(&name) {
+            self.orders.insert(name, known.catalogue.prefer(name)?)?;
+        }
+        if !self.ranked.contains_key(&number) {
+            let states = Vec::new(alloc);
+            let none = Ranked {
+                states,
+                from: 0,
+                taken: 0,
+            };
+            self.ranked.insert(number, none)?;
+        }
+        Ok(())
     }
 
     /// Of the states that are left to a vertex the most preferred one, if its order is kept, else the greatest.
@@ -125,79 +181,86 @@ fn first_place<S: States>(states: &[u32], from: usize, left: &S) -> usize {
     states.len()
 }
 
-/// The states of a package or a dependency, the most preferred first: none of other vertices.
-fn by_preference(
-    alloc: Global,
-    known: &KnownProblem<'_>,
-    vertex: &VertexRef<'_>,
-) -> Result<Vec<u32>, AllocError> {
-    match vertex {
-        VertexRef::Package(name, class) => versions_by_preference(alloc, known, name, *class),
-        VertexRef::Dependency(owner, number) => {
-            classes_by_preference(alloc, known, owner, *number)
+impl Ranked {
+    /// Goes on to the next state that is left.
+    fn extend<S: States>(
+        &mut self,
+        alloc: Global,
+        known: &KnownProblem<'_>,
+        name: &PackageName,
+        choice: Choice<'_>,
+        order: &[u32],
+        left: &S,
+    ) -> Result<(), AllocError> {
+        'places: for at in self.taken..order.len() {
+            self.taken = at + 1;
+            if let Some(state) = state_of(alloc, known, name, choice, order[at] as usize)? {
+                // Candidates of one class mostly follow one another.
+                if self.states.last() != Some(&state) {
+                    self.states.push(state)?;
+                }
+                if left.member(state) {
+                    return Ok(());
+                }
+            }
         }
-        _ => Ok(Vec::new(alloc)),
+        Ok(())
     }
 }
 
-/// The states of the versions of a class.
-fn versions_by_preference(
+/// What a package or a dependency is decided among, and of which name: nothing of other vertices.
+fn choice_of<'a>(
+    known: &KnownProblem<'a>,
+    vertex: &VertexRef<'a>,
+) -> Option<(&'a PackageName, Choice<'a>)> {
+    match vertex {
+        VertexRef::Package(name, class) => {
+            let versions = known.catalogue.versions(name);
+            // The versions of a class stand together.
+            let first = below(*class, versions);
+            let count = of_class(*class, versions).len();
+            Some((*name, Choice::Versions { first, count }))
+        }
+        VertexRef::Dependency(owner, number) => {
+            let dependency = dependency_at(known, owner, *number)?;
+            Some((&dependency.real_name, Choice::Classes(dependency)))
+        }
+        _ => None,
+    }
+}
+
+/// The state of the candidate at a place, if it is one of those that the vertex is decided among: a class stands where
+/// its most preferred candidate does.
+fn state_of(
     alloc: Global,
     known: &KnownProblem<'_>,
     name: &PackageName,
-    class: Class,
-) -> Result<Vec<u32>, AllocError> {
-    let versions = known.catalogue.versions(name);
-    // The versions of a class stand together, and are the states after absent.
-    let first = below(class, versions);
-    let count = of_class(class, versions).len();
-    let order = known.catalogue.prefer(name)?;
-    let mut states = Vec::new(alloc);
-    'places: for place in order.iter() {
-        let place = *place as usize;
-        if place >= first && place - first < count {
-            states.push(state_after(place - first))?;
-        }
-    }
-    Ok(states)
-}
-
-/// The states of the classes that a dependency may lead to: a class stands where its most preferred candidate does.
-fn classes_by_preference(
-    alloc: Global,
-    known: &KnownProblem<'_>,
-    owner: &OwnerRef<'_>,
-    number: usize,
-) -> Result<Vec<u32>, AllocError> {
-    let mut states = Vec::new(alloc);
-    let Some(dependency) = dependency_at(known, owner, number) else {
-        return Ok(states);
-    };
-    let classes = classes_of(alloc, known, dependency)?;
-    let versions = known.catalogue.versions(&dependency.real_name);
-    let order = known.catalogue.prefer(&dependency.real_name)?;
-    'places: for place in order.iter() {
-        if let Some(version) = versions.get(*place as usize) {
-            if dependency.requirement.matches(version) {
-                put_class(&mut states, classes.as_slice(), Class::of(version))?;
+    choice: Choice<'_>,
+    place: usize,
+) -> Result<Option<u32>, AllocError> {
+    match choice {
+        Choice::Versions { first, count } => Ok(state_among(first, count, place)),
+        Choice::Classes(dependency) => match known.catalogue.versions(name).get(place) {
+            Some(version) if dependency.requirement.matches(version) => {
+                let number = class_number(alloc, known, dependency, Class::of(version))?;
+                Ok(number.map(|number| state_at(number)))
             }
-        }
+            _ => Ok(None),
+        },
     }
-    Ok(states)
 }
 
-/// Puts the state of one of a dependency's classes, lowest first, unless it is the last that was put.
-fn put_class(states: &mut Vec<u32>, classes: &[Class], class: Class) -> Result<(), AllocError> {
-    if let Ok(place) = classes.binary_search(&class) {
-        let state = state_after(place);
-        if states.last() != Some(&state) {
-            states.push(state)?;
-        }
+/// The state of the version at a place, if it is one of so many from a place on: they follow absent.
+fn state_among(first: usize, count: usize, place: usize) -> Option<u32> {
+    let after = place.checked_sub(first)?;
+    if after < count {
+        Some(state_at(after.saturating_add(1)))
+    } else {
+        None
     }
-    Ok(())
 }
 
-/// The state at a place after absent.
-fn state_after(place: usize) -> u32 {
-    u32::try_from(place).unwrap_or(u32::MAX).saturating_add(1)
+/// The state of a number; no vertex has so many that it is cut.
+fn state_at(number: usize) -> u32 {
+    u32::try_from(number).unwrap_or(u32::MAX)
 }

@@ -23,11 +23,11 @@ ghost use Rattle.vertices.specs.inner.RefViews.{owner_ref_view, vertex_ref_view}
 ghost use Rattle.guiding.specs.inner.Found.{IsStateIn};
 
 use crate::in_content::{led_to, package_in};
-use crate::numbers::{class_number, version_number};
+use crate::numbers::version_number;
 use classes::Class;
 use features::PackageName;
 use lockfile::{LockContent, Package};
-use numbering::{KnownProblem, classes_of, dependency_at, spaces_are_small};
+use numbering::{KnownProblem, class_number, dependency_at, spaces_are_small};
 use std::alloc::{AllocError, Global};
 use vertices::{OwnerRef, VertexRef};
 
@@ -89,6 +89,9 @@ fn class_in(
     let Some(locked) = led_to(known, content, owner, dependency) else {
         return Ok(None);
     };
-    let classes = classes_of(alloc, known, dependency)?;
-    Ok(class_number(classes.as_slice(), Class::of(&locked.version)))
+    let class = Class::of(&locked.version);
+    match class_number(alloc, known, dependency, class)? {
+        Some(number) => Ok(Some(number as u32)),
+        None => Ok(None),
+    }
 }

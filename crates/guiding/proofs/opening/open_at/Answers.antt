@@ -16,5 +16,5 @@ returns g c =
     (omega (arith, c.requires.vertex, c.requires.long)) c.index-asked-vertex.is in
     let one : size (set_of sets v) ≡ 1 =
     sym (ap size c.states-left.ensures) ∙ sym c.count.ensures ∙ c.if-count-ne1.false in
-    open_by sets (map tests asked) v c.least.result (tests c.index-asked-vertex.result) c.unless_asked.result here one
-    (subst (λ s. has s c.least.result ≡ true) c.states-left.ensures c.least.ensures) c.unless_asked.ensures
+    open_by sets (map tests asked) v c.any_of.result (tests c.index-asked-vertex.result) c.unless_asked.result here one
+    (subst (λ s. has s c.any_of.result ≡ true) c.states-left.ensures c.any_of.ensures) c.unless_asked.ensures
