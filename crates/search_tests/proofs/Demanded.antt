@@ -19,7 +19,7 @@ use Rattle.propagation.proofs.Widened.{sum_append, wider_again, wider_none}
 use Rattle.guiding.specs.inner.Searching.{HasSpaces, IsOnly}
 use Rattle.guiding.specs.inner.Turning.{IsAdding}
 use Rattle.guiding.proofs.Guides.{adding_nothing, lone_one, spaces_wider}
-use Rattle.search_trials.specs.inner.Meeting.{universe_at}
+use Rattle.search_tests.specs.inner.Meeting.{universe_at}
 use Rattle.search_tests.specs.inner.Demands.{AllFit, HasCome, HasOnly, IsAlone, IsOfPair, IsPutOf, asked_of, pair_at}
 use Rattle.search_tests.specs.inner.Demands.{waits}
 

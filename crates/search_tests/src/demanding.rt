@@ -3,7 +3,7 @@
 
 ghost use Rattle.search_tests.specs.inner.Demands.{AllFit, HasCome, HasOnly, IsAlone, IsPutOf};
 ghost use Rattle.search_tests.specs.inner.Universes.{Refutes};
-ghost use Rattle.search_trials.specs.inner.Meeting.{AreSmall, universe_at};
+ghost use Rattle.search_tests.specs.inner.Meeting.{AreSmall, universe_at};
 ghost use Rattle.incompatibilities.specs.Stores.{entries_view};
 ghost use Rattle.propagation.specs.Promises.{IsTrail};
 ghost use Rattle.propagation.specs.Trails.{set_of, trail_view};

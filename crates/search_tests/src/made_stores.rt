@@ -2,12 +2,12 @@
 
 ghost use Rattle.incompatibilities.specs.Stores.{entries_view};
 ghost use Rattle.search_tests.specs.inner.Universes.{AllLie};
-ghost use Rattle.search_trials.specs.inner.Meeting.{AreSmall};
+ghost use Rattle.search_tests.specs.inner.Meeting.{AreSmall};
 ghost use Rattle.std.specs.Prelude.{◌≤◌, IfOk};
 
+use crate::made_terms::terms_of;
 use crate::preferring::Preferring;
 use incompatibilities::{Id, Incompatibility, Origin, Store};
-use search_trials::terms_of;
 use std::alloc::{AllocError, Global};
 use version_sets::States;
 

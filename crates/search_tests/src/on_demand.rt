@@ -1,12 +1,12 @@
 //! Pigeons that come, and axioms of theirs that are added, only once a pigeon before them stands in a hole.
 
-ghost use Rattle.search_trials.specs.inner.Meeting.{AreSmall};
+ghost use Rattle.search_tests.specs.inner.Meeting.{AreSmall};
 ghost use Rattle.std.specs.Prelude.{◌≤◌};
 
 use crate::demanding::{Demanding, Pending, search_on_demand};
+use crate::made_terms::terms_of;
 use guiding::Answer;
 use incompatibilities::{Id, Incompatibility};
-use search_trials::terms_of;
 use std::alloc::{AllocError, Global};
 use std::process::Abort;
 use version_sets::States;

@@ -2,7 +2,7 @@
 
 ghost use Rattle.incompatibilities.specs.Stores.{entries_view};
 ghost use Rattle.search_tests.specs.inner.Universes.{AllLie};
-ghost use Rattle.search_trials.specs.inner.Meeting.{AreSmall};
+ghost use Rattle.search_tests.specs.inner.Meeting.{AreSmall};
 ghost use Rattle.std.specs.Prelude.{◌≤◌, IfOk};
 
 use crate::made_stores::{guide_of, put};

@@ -2,7 +2,7 @@
 //! the search tells of its conflicts.
 
 ghost use Rattle.search_tests.specs.inner.Universes.{AllDecided, AllLie, IsWithinAll, Prefers, Refutes, Selects};
-ghost use Rattle.search_trials.specs.inner.Meeting.{AreSmall};
+ghost use Rattle.search_tests.specs.inner.Meeting.{AreSmall};
 ghost use Rattle.incompatibilities.specs.Stores.{entries_view};
 ghost use Rattle.propagation.specs.Trails.{trail_view};
 ghost use Rattle.incompatibilities.specs.Incompatibilities.{Assignment};

@@ -2,7 +2,7 @@
 
 ghost use Rattle.std.specs.Prelude.{◌≡◌, ◌≤◌, IfOk, length};
 
-use search_trials::with_number;
+use crate::made_terms::with_number;
 use std::alloc::{AllocError, Global};
 use std::process::Abort;
 use terms::{Relation, Term, relation};

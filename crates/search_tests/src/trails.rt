@@ -1,9 +1,9 @@
 //! The trail: each script is a row of calls and of what has to be there after them.
 
 use crate::plain::Bits;
+use crate::trial::Trial;
 use incompatibilities::Id;
 use propagation::{Progress, Satisfier};
-use search_trials::Trial;
 use std::alloc::{AllocError, Global};
 use std::process::Abort;
 use version_sets::States;

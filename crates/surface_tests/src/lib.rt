@@ -1,5 +1,5 @@
-//! Each public call once by its name, with what it answers: what a caller of the libraries writes. What runs show is
-//! shown by `worked_cases`.
+//! Each public call once by its name, with what it answers: what a caller of the libraries writes. Those of the algebra
+//! under the search are in `search_tests`; what runs show is shown by `worked_cases`.
 #![tactic(auto)]
 
 #[cfg(test)]
@@ -15,8 +15,4 @@ mod names;
 #[cfg(test)]
 mod problems;
 #[cfg(test)]
-mod sets;
-#[cfg(test)]
 mod solving;
-#[cfg(test)]
-mod trails;

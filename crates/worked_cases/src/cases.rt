@@ -12,6 +12,8 @@
 //! `cargo-relock WORD ..` is a run of the second program, in whose environment is what stands before it, of
 //! `RELOCK_INDEX`, `CARGO_HOME`, `CARGO_TERM_COLOR` and `NO_COLOR`; both texts go to a terminal where `TERM=xterm` does.
 //!
+//! `search FOLDER WORD` tells of a search what no run prints (`searching.rt`).
+//!
 //! `repeat COUNT TEXT` writes the text COUNT times, with a space for each `_`, a line end for each `;`, and for `@` the
 //! number of the time in five digits; `cat PATH` writes the bytes of a file; `cmp PATH PATH` ends with status 1 where two
 //! files differ.

@@ -1,17 +1,22 @@
-//! `worked_cases FOLDER`: plays the cases of a folder through runs of `relock` and of `cargo-relock`, and says which
-//! commands end otherwise than told. One program plays both, since each has to load all that stands below it.
+//! `worked_cases FOLDER`: plays the cases of a folder through runs of `relock` and of `cargo-relock`, and searches whose
+//! steps are counted, and says which commands end otherwise than told. One program plays all, since each has to load all
+//! that stands below it.
 //!
 //! What a case is, and what its commands may be, is told in `cases.rt`.
 #![tactic(auto)]
 
 mod case;
 mod cases;
+mod counting;
 mod helping;
+mod problem;
+mod searching;
 mod sessions;
 mod sink;
 
 use crate::case::Programs;
 use crate::cases::play_cases;
+use crate::searching::search;
 use cargo_commands::{Surroundings, run as tell};
 use commands::run;
 use std::io::{self, Write};
@@ -21,7 +26,7 @@ fn main(rt: HostRuntime) -> io::Result<ExitCode> {
     play_cases(&rt, &Both { rt: &rt })
 }
 
-/// `relock`, and `cargo-relock`, before whose name may stand what is around it.
+/// `relock`, `search`, and `cargo-relock`, before whose name may stand what is around it.
 #[derive(Clone, Copy)]
 struct Both<'a> {
     rt: &'a HostRuntime,
@@ -39,6 +44,7 @@ impl Programs for Both<'_> {
         let status = match words.first().map(|word| word.as_str()) {
             Some("relock") => run(&mut rt.clone()?, words, out, err),
             Some("cargo-relock") => tell(rt, words, &around, out, err),
+            Some("search") => search(rt, words, out)?,
             _ => return Ok(None),
         };
         Ok(Some(status))

@@ -10,7 +10,7 @@ use Rattle.propagation.specs.Trails.{TrailView, set_of}
 use Rattle.propagation.specs.inner.Widening.{IsWider, sum_of}
 use Rattle.propagation.specs.inner.Units.{term_at}
 use Rattle.guiding.specs.inner.Searching.{IsOnly, Pairs}
-use Rattle.search_trials.specs.inner.Meeting.{universe_at}
+use Rattle.search_tests.specs.inner.Meeting.{universe_at}
 
 abbrev pub waits : List (ℕ × ℕ) → ℕ → ℕ → Bool
 waits [] v i = false

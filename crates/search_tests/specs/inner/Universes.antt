@@ -5,7 +5,7 @@ use Rattle.incompatibilities.specs.Incompatibilities.{Assignment, Breaks, LiesIn
 use Rattle.incompatibilities.specs.Stores.{EntryView, entry, terms_of}
 use Rattle.propagation.specs.Satisfaction.{Agrees}
 use Rattle.propagation.specs.Trails.{TrailView, set_of}
-use Rattle.search_trials.specs.inner.Meeting.{universe_at}
+use Rattle.search_tests.specs.inner.Meeting.{universe_at}
 use Rattle.guiding.specs.inner.Searching.{IsRefutation}
 use Rattle.guiding.specs.declared.turns.Answer.{Answer}
 use Rattle.guiding.specs.declared.turns.Answer.TheVariants.{Selection, Unsolvable}

@@ -2,7 +2,7 @@ use Rattle.std.proofs.Common.{◌≡◌, length, subst, sym}
 use Rattle.terms.specs.Terms.{TermView, term_view, terms_view}
 use Rattle.propagation.specs.inner.Units.{term_at}
 use Rattle.propagation.proofs.Vertices.{view_at}
-use Rattle.search_trials.specs.inner.Meeting.{universe_at}
+use Rattle.search_tests.specs.inner.Meeting.{universe_at}
 use Rattle.search_tests.proofs.Demanded.{one_more}
 use Rattle.search_tests.proofs.demanding.all_lie.Goals as goal
 

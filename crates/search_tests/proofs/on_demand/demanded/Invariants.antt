@@ -1,4 +1,4 @@
-use Rattle.search_trials.specs.inner.Meeting.{AreSmall}
+use Rattle.search_tests.specs.inner.Meeting.{AreSmall}
 use Rattle.search_tests.proofs.on_demand.demanded.Given as goal
 
 abbrev pub invariant-seconds : goal.invariant-seconds
