@@ -1,5 +1,6 @@
 pub mod NameOrder
 pub mod TargetSearch
+pub mod RunSearch
 pub mod Lookups
 pub mod Seconds
 pub mod OnlyRoot

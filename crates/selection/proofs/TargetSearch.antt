@@ -26,7 +26,7 @@ use Rattle.catalogue.proofs.Bounded.{beyond_after, not_beyond}
 use Rattle.selection.specs.inner.Names.{is_past, name_cmp, past_by}
 use Rattle.selection.proofs.NameOrder.{names_rise}
 
-not_false : (b : Bool) → not b ≡ false → b ≡ true
+pub not_false : (b : Bool) → not b ≡ false → b ≡ true
 not_false true e = refl
 not_false false e = sym e
 

@@ -9,8 +9,8 @@
 //! but for the root, which may stand between them (`classes_once.rt`).
 //!
 //! The walk gives each enabled dependency the first candidate that it matches, in the order of preference: what the old
-//! lock has, and else the newest. It ignores conflicts, so it may end in two versions of one class, or lack a
-//! candidate: then there is no walk to give, and the search decides. What is hard is that which dependencies are
+//! lock has, and else the newest (`picking.rt`). It ignores conflicts, so it may end in two versions of one class, or
+//! lack a candidate: then there is no walk to give, and the search decides. What is hard is that which dependencies are
 //! enabled depends on the picks, and the other way round. So versions are met in rounds (`rounds.rt`): each follows the
 //! picks of the dependencies that packages need, and of those that the facts of the round before found to be enabled,
 //! each version once (`meeting.rt`), and finds the facts over these. Where each enabled dependency was followed, those

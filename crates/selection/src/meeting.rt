@@ -29,7 +29,7 @@ pub(crate) fn meet<'a>(
     alloc: Global,
     manifest: &'a Manifest,
     catalogue: &'a Catalogue,
-    orders: &mut HashMap<PackageName, Vec<u32>>,
+    orders: &mut HashMap<PackageName, Vec<Vec<u32>>>,
     versions: &mut IndexSet<MetVersion>,
     all: bool,
     asked: &[Vec<bool>],
@@ -78,7 +78,7 @@ fn follows_all(all: bool, place: usize) -> bool
 fn targets_of(
     alloc: Global,
     catalogue: &Catalogue,
-    orders: &mut HashMap<PackageName, Vec<u32>>,
+    orders: &mut HashMap<PackageName, Vec<Vec<u32>>>,
     versions: &mut IndexSet<MetVersion>,
     dependencies: &[Dependency],
     all: bool,
@@ -93,7 +93,7 @@ fn targets_of(
     let mut targets = Vec::new(alloc);
     'dependencies: for (number, dependency) in dependencies.iter().enumerate() {
         let follows = is_followed(all, flag(asked, number), dependency);
-        targets.push(target_if(catalogue, orders, versions, dependency, follows)?)?;
+        targets.push(target_if(alloc, catalogue, orders, versions, dependency, follows)?)?;
     }
     Ok(targets)
 }
@@ -107,8 +107,9 @@ fn is_followed(all: bool, asked: bool, dependency: &DependencyParts) -> bool
 
 /// Where the pick of a dependency stands, if it is followed.
 fn target_if(
+    alloc: Global,
     catalogue: &Catalogue,
-    orders: &mut HashMap<PackageName, Vec<u32>>,
+    orders: &mut HashMap<PackageName, Vec<Vec<u32>>>,
     versions: &mut IndexSet<MetVersion>,
     dependency: &DependencyParts,
     follows: bool,
@@ -120,7 +121,7 @@ fn target_if(
         (owners_of catalogue.now versions.new.keys) follows (dependency_view dependency.now) o) }
 {
     if follows {
-        target_of(catalogue, orders, versions, dependency)
+        target_of(alloc, catalogue, orders, versions, dependency)
     } else {
         Ok(None)
     }
@@ -128,8 +129,9 @@ fn target_if(
 
 /// Where the pick of a dependency stands; if it is new it goes last.
 fn target_of(
+    alloc: Global,
     catalogue: &Catalogue,
-    orders: &mut HashMap<PackageName, Vec<u32>>,
+    orders: &mut HashMap<PackageName, Vec<Vec<u32>>>,
     versions: &mut IndexSet<MetVersion>,
     dependency: &DependencyParts,
 ) -> Result<Option<usize>, AllocError>
@@ -139,7 +141,7 @@ fn target_of(
     ensures pick { IfOk result (λ o. IsPick (preferred_in catalogue.now) (owners_of catalogue.now versions.new.keys)
         (dependency_view dependency.now) o) }
 {
-    let Some(place) = pick(catalogue, orders, dependency)? else {
+    let Some(place) = pick(alloc, catalogue, orders, dependency)? else {
         return Ok(None);
     };
     Ok(Some(put_met(catalogue, versions, &dependency.real_name, place)?))

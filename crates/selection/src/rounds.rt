@@ -86,7 +86,7 @@ fn reach_all<'a>(
     alloc: Global,
     manifest: &'a Manifest,
     catalogue: &'a Catalogue,
-    mut orders: HashMap<PackageName, Vec<u32>>,
+    mut orders: HashMap<PackageName, Vec<Vec<u32>>>,
     mut versions: IndexSet<MetVersion>,
 ) -> Result<Option<Reached<'a>>, AllocError>
     requires orders { AreOrders catalogue.now orders }
@@ -118,7 +118,7 @@ fn follow<'a>(
     alloc: Global,
     manifest: &'a Manifest,
     catalogue: &'a Catalogue,
-    orders: &mut HashMap<PackageName, Vec<u32>>,
+    orders: &mut HashMap<PackageName, Vec<Vec<u32>>>,
     versions: &mut IndexSet<MetVersion>,
     all: bool,
     asked: &[Vec<bool>],
