@@ -9,7 +9,8 @@ use Rattle.propagation.specs.inner.Parts.{IsPut, put_step}
 use Rattle.propagation.specs.Promises.{IsDecided, IsSound, IsTaken, IsTrail, SameSpaces}
 use Rattle.propagation.proofs.Back.{put_longer}
 use Rattle.propagation.proofs.SetLemmas.{inside_only, size_only, total_set}
-use Rattle.propagation.proofs.Soundness.{longer_spaces, put_sound, put_trail}
+use Rattle.propagation.proofs.Passing.{put_trail}
+use Rattle.propagation.proofs.Soundness.{longer_spaces, put_sound}
 
 pub record IsDeciding (v state : ℕ) (old new : TrailView) : Type 0 where
   pub sound : IsSound old

@@ -109,6 +109,14 @@ kept_le l (s ∷ ss) = elim (cases_lt l s.level) [
   | inr le ↦ omega (arith, kept_in l s ss le, kept_le l ss)
 ]
 
+pub kept_more : (l : ℕ) (xs ys : List StepView) → kept l xs ≤ kept l (xs ++ ys)
+unfolding kept
+kept_more l [] ys = omega arith
+kept_more l (x ∷ xs) ys = elim (cases_lt l x.level) [
+  | inl lt ↦ omega (arith, kept_out l x xs lt)
+  | inr le ↦ omega (arith, kept_in l x xs le, kept_in l x (xs ++ ys) le, kept_more l xs ys)
+]
+
 past_kept : (l : ℕ) (ss : List StepView) → past l ss ≡ drop (kept l ss) ss
 unfolding kept
 past_kept l [] = refl

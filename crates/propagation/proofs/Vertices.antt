@@ -13,7 +13,7 @@ use Rattle.incompatibilities.specs.Incompatibilities.{AllPast, IsRising, NoneFul
 use Rattle.incompatibilities.proofs.Lookups.{at_first, at_later}
 use Rattle.propagation.specs.Trails.{TrailView, no_step, set_of, space_of, step_at, step_view, steps_view}
 use Rattle.propagation.specs.declared.trail.Step.{Step}
-use Rattle.propagation.specs.Satisfaction.{IsOneOpen, IsQuiet, Sat}
+use Rattle.propagation.specs.Satisfaction.{IsOneOpen, IsQuiet, RuledOut, Sat}
 use Rattle.propagation.specs.inner.Units.{AllHold, LiesOn, Neither, OneIsOpen, relation_at, term_at}
 use Rattle.propagation.proofs.SetLemmas.{not_full_long}
 
@@ -32,6 +32,12 @@ unfolding relates
 open_of true b e = absurd cc
 open_of false true e = (refl, refl)
 open_of false false e = absurd cc
+
+apart_of : (a b : Bool) → relates a b ≡ Contradicted → b ≡ false
+unfolding relates
+apart_of true b e = absurd cc
+apart_of false true e = absurd cc
+apart_of false false e = refl
 
 pub holds_from : (s x : Members) → relation_of s x ≡ Satisfied → HoldsAt s (Some x)
 unfolding relates
@@ -151,6 +157,20 @@ holds_of sets ts i r lt h = holds_to (set_of sets (term_at ts i).vertex) (term_a
 pub sat_to : (sets : List Members) (ts : List TermView) → IsRising ts → Sat sets (states_at ts)
     → AllHold (length ts) (relation_at sets ts)
 sat_to sets ts r sat i lt = holds_of sets ts i r lt (sat (term_at ts i).vertex)
+
+-- one term is contradicted, so the incompatibility is ruled out
+pub out_at : (sets : List Members) (ts : List TermView) (i : ℕ) → IsRising ts → i < length ts
+    → relation_at sets ts i ≡ Contradicted → RuledOut sets (states_at ts)
+unfolding relates
+out_at sets ts i r lt e =
+    let s = set_of sets (term_at ts i).vertex in
+    let x = (term_at ts i).states in
+    record {
+      vertex = (term_at ts i).vertex;
+      states = x;
+      term = states_of ts i r lt;
+      apart = apart_of (ltb 0 (size s) && inside s x) (meets s x) e;
+    }
 
 -- one term is open
 pub open_one : (sets : List Members) (ts : List TermView) (k : ℕ) → IsRising ts → OneIsOpen (length ts)

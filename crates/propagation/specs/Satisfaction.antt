@@ -30,6 +30,13 @@ pub record IsQuiet (sets : List Members) (f : Terms) : Type 0 where
   pub not_all : ¬ Sat sets f
   pub not_one : (v : ℕ) (x : Members) → ¬ IsOneOpen sets f v x
 
+-- a term has no state that is left, so it neither holds nor is open, now or with fewer states
+pub record RuledOut (sets : List Members) (f : Terms) : Type 0 where
+  pub vertex : ℕ
+  pub states : Members
+  pub term : f vertex ≡ Some states
+  pub apart : meets (set_of sets vertex) states ≡ false
+
 -- an assignment is the negation of the one open term of an incompatibility whose other terms are satisfied
 pub record IsForced (sets after : List Members) (v : ℕ) (f : Terms) (x : Members) : Type 0 where
   pub one : IsOneOpen sets f v x

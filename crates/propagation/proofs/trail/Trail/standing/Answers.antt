@@ -26,7 +26,8 @@ returns-in-Quiet g c =
     let f = relation_at (trail_view g.S.States.tests c.args.self.now).sets
     (terms_view g.S.States.tests c.args.terms.now) in
     let more : c.terms.place ≡ suc k = omega arith in
-    let is : after c.terms.seen k c.relation_at-relation.result ≡ Quiet = sym c.with_next-seen.ensures ∙ c.in-Quiet.is in
+    let is : after c.terms.seen k c.relation_at-relation.result ≡ Quiet =
+    sym c.with_next-seen.ensures ∙ c.in-Quiet.is in
     subst (StandsFrom k n f) is
     (after_next f k n c.terms.seen c.relation_at-relation.result lt (sym c.relation_at-relation.ensures)
     (subst (λ m. StandsFrom m n f c.terms.seen) more c.terms.invariant))
