@@ -27,8 +27,8 @@ use Rattle.model.proofs.Lists.{in_filter, to_filter, all_none, all_cons, all_fir
 use Rattle.model.proofs.Permuted.{rising-same}
 use Rattle.model.proofs.Members.{all_in}
 use Rattle.features.specs.inner.Valid.{BringsValid}
-use Rattle.index_reader.specs.Views.{record_view}
-use Rattle.index_reader.specs.declared.record.Record as reader
+use Rattle.index_lines.specs.Views.{record_view}
+use Rattle.index_lines.specs.declared.record.Record as reader
 use Rattle.catalogue.specs.Loads.{records_view, with_ranks}
 use Rattle.catalogue.specs.Runs.{as_record}
 use Rattle.catalogue.specs.Ranks.{Ranked, records, rank_of, rank_by, fits_given}

@@ -7,7 +7,7 @@ use Rattle.std.proofs.lemmas.List.Folds.{list_all_at}
 use Rattle.std.specs.List.{list_all}
 use Rattle.std.specs.Cmp.Lexicographic.{unequal}
 use Rattle.model.specs.Summary.{same_text}
-use Rattle.index_reader.specs.Records.{is_hexadecimal}
+use Rattle.index_lines.specs.Records.{is_hexadecimal}
 use Rattle.catalogue.specs.inner.Checksums.{digit, digits_of}
 
 -- the digits of a byte

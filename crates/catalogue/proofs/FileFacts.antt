@@ -13,12 +13,12 @@ use Rattle.model.proofs.Lists.{all_none, all_cons, pairs_none}
 use Rattle.index_reader.specs.Files.{FileView, no_lines, same_precedence, has_version, with_skip, with_record}
 use Rattle.index_reader.specs.Files.{with_found, with_read, with_line, with_lines}
 use Rattle.trees.specs.Lines.{is_line_end, is_blank}
-use Rattle.index_reader.specs.Shapes.{Line}
-use Rattle.index_reader.specs.Records.{RecordView, is_checksum, unchecked_of_line}
-use Rattle.index_reader.specs.declared.fault.SkipReason.TheVariants.{Duplicate, BadChecksum}
-use Rattle.index_reader.specs.declared.fault.LineFault.TheVariants as line
-use Rattle.index_reader.specs.Views.{record_view}
-use Rattle.index_reader.specs.declared.record.Record as reader
+use Rattle.index_lines.specs.Shapes.{Line}
+use Rattle.index_lines.specs.Records.{RecordView, is_checksum, unchecked_of_line}
+use Rattle.index_lines.specs.declared.fault.SkipReason.TheVariants.{Duplicate, BadChecksum}
+use Rattle.index_lines.specs.declared.fault.LineFault.TheVariants as line
+use Rattle.index_lines.specs.Views.{record_view}
+use Rattle.index_lines.specs.declared.record.Record as reader
 use Rattle.catalogue.specs.Runs.{as_record, records_of}
 use Rattle.catalogue.specs.Loads.{IsWithin, file_of, records_view, skips_of}
 use Rattle.catalogue.specs.Views.{most_candidates}

@@ -16,10 +16,11 @@ use Rattle.model.specs.Summary.{Dependency, same_text}
 use Rattle.index_reader.specs.Folders.{Answer, IsRisen}
 use Rattle.index_reader.specs.Files.{SkipView, FileView, no_lines, line_count, records_of_file}
 use Rattle.index_reader.specs.Paths.{path_of}
-use Rattle.index_reader.specs.Views.{record_view, contents_view}
+use Rattle.index_lines.specs.Views.{record_view}
+use Rattle.index_reader.specs.Views.{contents_view}
 use Rattle.index_reader.specs.declared.folder.FolderFault.TheVariants.{Failed}
-use Rattle.index_reader.specs.declared.record.Record.{Record}
-use Rattle.index_reader.specs.declared.record.Skip.{Skip}
+use Rattle.index_lines.specs.declared.record.Record.{Record}
+use Rattle.index_reader.specs.declared.skip.Skip.{Skip}
 use Rattle.catalogue.specs.Ranks.{Ranked, rank_of}
 use Rattle.features.specs.Views.{dependency_views}
 use Rattle.catalogue.specs.Runs.{Asked, Calls, Chain, as_record, meant_by, records_of, AreNext, next_name}

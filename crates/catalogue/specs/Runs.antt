@@ -7,7 +7,7 @@ use Rattle.model.specs.Content.{Content}
 use Rattle.model.specs.Candidates.{Record, candidates_among, is_locked}
 use Rattle.index_reader.specs.Folders.{Answer}
 use Rattle.index_reader.specs.Paths.{path_of}
-use Rattle.index_reader.specs.Records.{RecordView}
+use Rattle.index_lines.specs.Records.{RecordView}
 use Rattle.index_reader.specs.Files.{records_of_file}
 
 -- a name that was asked for, and what the folder answered: its file, if there is one

@@ -3,7 +3,7 @@
 ghost use Rattle.std.specs.Prelude.{◌≡◌, ◌/◌, ◌%◌, ◌<◌, ◌&&◌, nat_eq, [], ◌∷◌, ◌++◌, length, string_bytes};
 ghost use Rattle.std.specs.Prelude.{IfOk, IfSome, OnOk, true};
 ghost use Rattle.std.specs.List.{list_all};
-ghost use Rattle.index_reader.specs.Records.{is_hexadecimal};
+ghost use Rattle.index_lines.specs.Records.{is_hexadecimal};
 ghost use Rattle.model.specs.Summary.{same_text};
 ghost use Rattle.catalogue.specs.inner.Checksums.{digit, digits_of};
 

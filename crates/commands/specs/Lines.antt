@@ -5,8 +5,8 @@ use Rattle.std.specs.Prelude.{decimal, string_bytes}
 use Rattle.std.specs.Io.KnownBytes.{Appends}
 use Rattle.checker.specs.declared.outcome.Check.{Check}
 use Rattle.checker.specs.declared.outcome.Check.TheVariants.{Proves, Refused}
-use Rattle.index_reader.specs.Reasons.{reason_text}
-use Rattle.index_reader.specs.declared.record.Skip.{Skip}
+use Rattle.index_lines.specs.Reasons.{reason_text}
+use Rattle.index_reader.specs.declared.skip.Skip.{Skip}
 use Rattle.selection.specs.declared.verdict.Verdict.{Verdict}
 use Rattle.selection.specs.declared.verdict.Verdict.TheVariants.{Valid, Invalid}
 use Rattle.resolver.specs.declared.resolving.Answer.{Answer}

@@ -16,9 +16,9 @@ use Rattle.semver.specs.declared.Version.{Version}
 use Rattle.semver.specs.contracts.VersionOrd.TheImpl.{cmp-value}
 use Rattle.model.specs.Order.{precedence}
 use Rattle.index_reader.specs.Files.{same_precedence, has_version}
-use Rattle.index_reader.specs.Views.{record_view}
+use Rattle.index_lines.specs.Views.{record_view}
 use Rattle.index_reader.specs.inner.BareVersions.{bare, has_equal, WithoutBuild, Agrees}
-use Rattle.index_reader.specs.declared.record.Record.{Record}
+use Rattle.index_lines.specs.declared.record.Record.{Record}
 
 swap_or : (a b c : Bool) → (a || (b || c)) ≡ (b || (a || c))
 swap_or true true c = refl

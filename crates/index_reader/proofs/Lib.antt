@@ -1,16 +1,5 @@
-pub mod ReadLemmas
 pub mod ValidLemmas
-pub mod PartLemmas
-pub mod CutLemmas
-pub mod ByPartsLemmas
-pub mod ItemsLemmas
-pub mod PlainLemmas
-pub mod RowsLemmas
 pub mod PathLemmas
-pub mod WrittenLemmas
-pub mod MadeLemmas
-pub mod KnownLemmas
-pub mod RisingLemmas
 pub mod FileLaws
 pub mod KeptLemmas
 pub mod SplitLemmas

@@ -1,7 +1,6 @@
 -- What a record of a file brings is of names that are names, and it has no more dependencies than its line has bytes.
 use Rattle.std.proofs.Common.{◌≡◌, ℕ, suc, ◌+◌, ◌≤◌, ◌==◌, ◌||◌, Bool, true, false, cond, List, [], ◌∷◌, ◌++◌, length}
-use Rattle.std.proofs.Common.{map}
-use Rattle.std.proofs.Common.{Option, Some, None, option_and_then, unwrap_or, codes, Result, Ok, Err, IfOk, IfSome, All}
+use Rattle.std.proofs.Common.{Option, Some, None, option_and_then, codes, Result, Ok, Err, IfOk, IfSome, All}
 use Rattle.std.proofs.Common.{refl, ◌<◌}
 use Rattle.std.proofs.Common.{sym, subst, arith, Ordering, Less, Equal, Greater, nat_cmp}
 use Rattle.std.proofs.lemmas.List.Elements.{All-append, All-cons, All-head, All-map, All-nil, All-tail, All-weaker}
@@ -11,10 +10,10 @@ use Rattle.std.specs.Map.{set_value}
 use Rattle.std.specs.Option.{ok_or}
 use Rattle.std.specs.Ordering.{match_ordering}
 use Rattle.std.proofs.lemmas.List.Splits.{slice_split-cons_yes, slice_split-cons_no}
-use Rattle.semver.specs.Parse.{Held, version_parts, req_of}
+use Rattle.semver.specs.Parse.{Held, version_parts}
 use Rattle.serde_json.specs.Data.{Data, null, boolean, number, string, array, object, Items, no_items, item, Members}
 use Rattle.serde_json.specs.Data.{no_members, member}
-use Rattle.serde_json.specs.Find.{get, get_member, as_str, as_bool, as_array}
+use Rattle.serde_json.specs.Find.{get, get_member, as_str, as_bool}
 use Rattle.model.specs.Outcome.{◌>>=◌}
 use Rattle.model.specs.Summary as model
 use Rattle.model.specs.Summary.{Entry, Table, entries_at, same_text}
@@ -26,28 +25,25 @@ use Rattle.features.specs.Entries.{entry_of}
 use Rattle.features.specs.Names.{is_package_name, is_feature_name}
 use Rattle.features.specs.inner.Valid.{IsPackageName, IsFeatureName, IsValidEntry, IsValidRow, IsValidDependency}
 use Rattle.features.specs.inner.Valid.{BringsValid}
-use Rattle.features.specs.declared.dependency.DependencyKind.{DependencyKind}
 use Rattle.features.proofs.ValidLemmas.{entry-valid, row-valid, built-valid}
-use Rattle.index_reader.specs.Shapes.{Line, data_of_bytes, needed, unless_null, value_at, text_at, flag_at, whole_at}
-use Rattle.index_reader.specs.Shapes.{texts_or_none, features_at, package_name_of, needed_name, package_name_at}
-use Rattle.index_reader.specs.Shapes.{kind_at, is_dev, PartView, DependencyView, dev, part, ValuesView, values_of}
-use Rattle.index_reader.specs.Shapes.{part_with}
-use Rattle.index_reader.specs.Shapes.{package_name_or_none, optional, text_of, by_kind, dependency_of}
-use Rattle.index_reader.specs.Shapes.{dependencies_in, needed_dependencies, dependencies_at, FeatureView, ShapeView}
-use Rattle.index_reader.specs.Shapes.{shape_of}
-use Rattle.index_reader.specs.Written.{feature_name_of, entry_read, entries_read, feature_read, with_more, joined}
-use Rattle.index_reader.specs.Written.{with_feature, with_features, written_of, dep_name_of, dep_names_of}
-use Rattle.index_reader.specs.Written.{unless_faulty}
-use Rattle.index_reader.specs.Written.{features_of}
-use Rattle.index_reader.specs.Records.{RecordView, unless, semver_or, required_part, required, is_empty_text, before}
-use Rattle.index_reader.specs.Records.{feature_names, dependency_read, dependencies_read, is_of_index, is_checksum}
-use Rattle.index_reader.specs.Records.{unchecked_of_shape, unchecked_of_line}
-use Rattle.index_reader.specs.Files.{FileView, has_version, no_lines, with_skip, with_record, with_found, with_read}
+use Rattle.index_lines.specs.Shapes.{Line, needed, unless_null, value_at, text_at, flag_at, whole_at}
+use Rattle.index_lines.specs.Shapes.{texts_or_none, features_at, package_name_of, needed_name, package_name_at}
+use Rattle.index_lines.specs.Shapes.{kind_at, is_dev, PartView, DependencyView, dev, part, ValuesView, values_of}
+use Rattle.index_lines.specs.Shapes.{part_with}
+use Rattle.index_lines.specs.Shapes.{package_name_or_none, optional, text_of, dependency_of}
+use Rattle.index_lines.specs.Shapes.{dependencies_in, needed_dependencies, dependencies_at, FeatureView, ShapeView}
+use Rattle.index_lines.specs.Shapes.{shape_of}
+use Rattle.index_lines.specs.Written.{feature_name_of, entry_read, entries_read, feature_read, with_more, joined}
+use Rattle.index_lines.specs.Written.{with_feature, with_features, written_of, dep_name_of, dep_names_of}
+use Rattle.index_lines.specs.Written.{unless_faulty}
+use Rattle.index_lines.specs.Written.{features_of}
+use Rattle.index_lines.specs.Records.{RecordView, unless, semver_or, required_part, required, is_empty_text, before}
+use Rattle.index_lines.specs.Records.{feature_names, dependency_read, dependencies_read, is_of_index, is_checksum}
+use Rattle.index_lines.specs.Records.{unchecked_of_shape, unchecked_of_line}
+use Rattle.index_reader.specs.Files.{FileView, has_version, no_lines, with_skip, with_found, with_read}
 use Rattle.index_reader.specs.Files.{with_line, with_lines, records_of_file}
-use Rattle.index_reader.specs.declared.fault.LineFault.{LineFault}
-use Rattle.index_reader.specs.declared.fault.LineFault.TheVariants.{OutOfMemory, Skipped}
-use Rattle.index_reader.specs.declared.fault.SkipReason.{SkipReason}
-use Rattle.index_reader.specs.declared.fault.SkipReason.TheVariants as reason
+use Rattle.index_lines.specs.declared.fault.LineFault.TheVariants.{OutOfMemory, Skipped}
+use Rattle.index_lines.specs.declared.fault.SkipReason.TheVariants as reason
 
 -- ---- one step after another
 

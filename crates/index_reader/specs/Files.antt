@@ -7,11 +7,11 @@ use Rattle.std.specs.Ordering.{is_eq}
 use Rattle.semver.specs.Parse.{Parts}
 use Rattle.model.specs.Order.{precedence}
 use Rattle.trees.specs.Lines.{is_blank, is_line_end}
-use Rattle.index_reader.specs.Shapes.{Line}
-use Rattle.index_reader.specs.Records.{RecordView, is_checksum, unchecked_of_line}
-use Rattle.index_reader.specs.declared.fault.SkipReason.{SkipReason}
-use Rattle.index_reader.specs.declared.fault.SkipReason.TheVariants.{BadChecksum, Duplicate}
-use Rattle.index_reader.specs.declared.fault.LineFault.TheVariants.{OutOfMemory, Skipped}
+use Rattle.index_lines.specs.Shapes.{Line}
+use Rattle.index_lines.specs.Records.{RecordView, is_checksum, unchecked_of_line}
+use Rattle.index_lines.specs.declared.fault.SkipReason.{SkipReason}
+use Rattle.index_lines.specs.declared.fault.SkipReason.TheVariants.{BadChecksum, Duplicate}
+use Rattle.index_lines.specs.declared.fault.LineFault.TheVariants.{OutOfMemory, Skipped}
 
 -- some bytes, the last of which ends no line
 abbrev pub ends_open : List ℕ → Bool

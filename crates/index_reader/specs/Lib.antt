@@ -1,7 +1,3 @@
-pub mod Shapes
-pub mod Written
-pub mod Records
-pub mod Reasons
 pub mod Files
 pub mod Views
 pub mod Paths

@@ -6,13 +6,10 @@ ghost use Rattle.index_reader.specs.Files.{line_count, with_skip, with_line, wit
 ghost use Rattle.trees.specs.Lines.{is_line_end};
 ghost use Rattle.index_reader.specs.Views.{file_view, contents_view};
 
-use crate::fault::LineFault;
 use crate::file_so_far::FileSoFar;
-use crate::known::KnownDependencies;
-use crate::line::read_unchecked;
-use crate::made::LineBefore;
-use crate::record::{Record, Skip};
+use crate::skip::Skip;
 use features::PackageName;
+use index_lines::{KnownDependencies, LineBefore, LineFault, Record, read_unchecked};
 use memchr::memchr;
 use std::alloc::{AllocError, Global};
 use trees::{Scratch, is_blank};

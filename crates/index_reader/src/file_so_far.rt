@@ -5,11 +5,12 @@ ghost use Rattle.semver.specs.Identifiers.{parts_of};
 ghost use Rattle.model.specs.Order.{precedence};
 ghost use Rattle.index_reader.specs.Files.{has_version, with_skip, with_record, with_found, no_lines};
 ghost use Rattle.index_reader.specs.inner.BareVersions.{bare, WithoutBuild, Agrees};
-ghost use Rattle.index_reader.specs.Views.{record_view, file_view};
+ghost use Rattle.index_lines.specs.Views.{record_view};
+ghost use Rattle.index_reader.specs.Views.{file_view};
 
-use crate::fault::SkipReason;
-use crate::record::{Record, Skip, is_checksum};
+use crate::skip::Skip;
 use features::PackageName;
+use index_lines::{Record, SkipReason, is_checksum};
 use semver::{BuildMetadata, Version};
 use std::alloc::{AllocError, Global};
 use std::collections::BTreeSet;

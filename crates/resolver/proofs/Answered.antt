@@ -4,7 +4,7 @@ use Rattle.std.proofs.Common.{ap, ◌∙◌, subst, true≢false}
 use Rattle.std.specs.declared.alloc.Global.{Global}
 use Rattle.model.specs.Outcome.{◌>>=◌}
 use Rattle.model.specs.Content.{Content}
-use Rattle.index_reader.specs.declared.record.Skip.{Skip}
+use Rattle.index_reader.specs.declared.skip.Skip.{Skip}
 use Rattle.lockfile.specs.Locks.{content_of_bytes}
 use Rattle.lockfile.specs.Spelling.{spelling}
 use Rattle.lockfile.specs.declared.fault.LockFault.{LockFault}

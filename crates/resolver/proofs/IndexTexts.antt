@@ -13,22 +13,22 @@ use Rattle.model.specs.Outcome.{◌>>=◌}
 use Rattle.model.specs.Summary as model
 use Rattle.model.specs.Summary.{same_text}
 use Rattle.features.specs.Names.{is_package_name}
-use Rattle.index_reader.specs.Shapes.{Line, ShapeView, PartView, DependencyView, dev, part, data_of_bytes, needed}
-use Rattle.index_reader.specs.Shapes.{value_at, text_at, text_of, flag_at, whole_at, texts_or_none, features_at}
-use Rattle.index_reader.specs.Shapes.{optional, package_name_of, package_name_at, package_name_or_none, kind_at, is_dev}
-use Rattle.index_reader.specs.Shapes.{ValuesView, values_of, part_with, dependency_of, dependencies_in}
-use Rattle.index_reader.specs.Shapes.{dependencies_at, shape_of}
-use Rattle.index_reader.specs.Records.{RecordView, unless, semver_or, required_part, required, dependency_read}
-use Rattle.index_reader.specs.Records.{dependencies_read}
-use Rattle.index_reader.specs.Records.{is_of_index, is_checksum, feature_names, unchecked_of_shape, unchecked_of_line}
-use Rattle.index_reader.specs.Written.{features_of}
+use Rattle.index_lines.specs.Shapes.{Line, ShapeView, PartView, DependencyView, dev, part, data_of_bytes, needed}
+use Rattle.index_lines.specs.Shapes.{value_at, text_at, text_of, flag_at, whole_at, texts_or_none, features_at}
+use Rattle.index_lines.specs.Shapes.{optional, package_name_of, package_name_at, package_name_or_none, kind_at, is_dev}
+use Rattle.index_lines.specs.Shapes.{ValuesView, values_of, part_with, dependency_of, dependencies_in}
+use Rattle.index_lines.specs.Shapes.{dependencies_at, shape_of}
+use Rattle.index_lines.specs.Records.{RecordView, unless, semver_or, required_part, required, dependency_read}
+use Rattle.index_lines.specs.Records.{dependencies_read}
+use Rattle.index_lines.specs.Records.{is_of_index, is_checksum, feature_names, unchecked_of_shape, unchecked_of_line}
+use Rattle.index_lines.specs.Written.{features_of}
 use Rattle.index_reader.specs.Files.{FileView, has_version, no_lines, with_skip, with_record, with_found, with_read}
 use Rattle.index_reader.specs.Files.{with_line, with_lines, records_of_file}
 use Rattle.trees.specs.Lines.{is_line_end, is_blank}
-use Rattle.index_reader.specs.declared.fault.SkipReason.{SkipReason}
-use Rattle.index_reader.specs.declared.fault.SkipReason.TheVariants.{BadChecksum, BadRequirement, BadVersion, Duplicate}
-use Rattle.index_reader.specs.declared.fault.SkipReason.TheVariants.{NewerFormat, OtherName, OtherRegistry}
-use Rattle.index_reader.specs.declared.fault.LineFault.TheVariants.{OutOfMemory, Skipped}
+use Rattle.index_lines.specs.declared.fault.SkipReason.{SkipReason}
+use Rattle.index_lines.specs.declared.fault.SkipReason.TheVariants.{BadChecksum, BadRequirement, BadVersion, Duplicate}
+use Rattle.index_lines.specs.declared.fault.SkipReason.TheVariants.{NewerFormat, OtherName, OtherRegistry}
+use Rattle.index_lines.specs.declared.fault.LineFault.TheVariants.{OutOfMemory, Skipped}
 use Rattle.resolver.proofs.Given.{Given, IfSome, any, next, tested, either, each-append}
 
 abbrev pub IsName : List ℕ → Type 0

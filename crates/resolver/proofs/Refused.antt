@@ -8,7 +8,7 @@ use Rattle.model.specs.Optional.{packages_if}
 use Rattle.model.specs.Derivation.{IsAccepted, Step}
 use Rattle.manifest.specs.Manifests.{ManifestView, manifest_of_bytes}
 use Rattle.index_reader.specs.Folders.{Files, MemoryCalls}
-use Rattle.index_reader.specs.declared.record.Skip.{Skip}
+use Rattle.index_reader.specs.declared.skip.Skip.{Skip}
 use Rattle.catalogue.specs.Loads.{rust_for}
 use Rattle.catalogue.specs.Problems.{problem_in}
 use Rattle.catalogue.specs.Stores.{CatalogueView}

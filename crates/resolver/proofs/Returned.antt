@@ -11,7 +11,7 @@ use Rattle.model.specs.Selection.{IsValidSelection}
 use Rattle.model.proofs.Lists.{in_none}
 use Rattle.manifest.specs.Manifests.{ManifestView, manifest_of_bytes}
 use Rattle.index_reader.specs.Folders.{Files, MemoryCalls}
-use Rattle.index_reader.specs.declared.record.Skip.{Skip}
+use Rattle.index_reader.specs.declared.skip.Skip.{Skip}
 use Rattle.catalogue.specs.Loads.{rust_for}
 use Rattle.catalogue.specs.Runs.{Asked, next_name}
 use Rattle.catalogue.specs.Problems.{names_in, problem_in}

@@ -20,7 +20,7 @@ use Rattle.model.proofs.Flat.{in_flat}
 use Rattle.manifest.specs.Manifests.{ManifestView}
 use Rattle.features.specs.Names.{is_between}
 use Rattle.index_reader.specs.Files.{records_of_file}
-use Rattle.index_reader.specs.Records.{is_checksum, is_hexadecimal}
+use Rattle.index_lines.specs.Records.{is_checksum, is_hexadecimal}
 use Rattle.catalogue.specs.Problems.{candidates_by_name, names_in, problem_of}
 use Rattle.catalogue.specs.Runs.{Asked, AreNext, as_record, candidates_in, meant_by, needed_by, records_of}
 use Rattle.catalogue.specs.Sources.{is_source, is_source_byte}

@@ -7,7 +7,7 @@ use Rattle.model.specs.Derivation.{IsAccepted, Step}
 use Rattle.model.specs.Selection.{IsValidSelection}
 use Rattle.index_reader.specs.Files.{SkipView}
 use Rattle.index_reader.specs.Views.{skip_view}
-use Rattle.index_reader.specs.declared.record.Skip.{Skip}
+use Rattle.index_reader.specs.declared.skip.Skip.{Skip}
 use Rattle.lockfile.specs.Locks.{content_of_bytes, most_bytes, table_of_bytes}
 use Rattle.lockfile.specs.Spelling.{spelling}
 use Rattle.lockfile.specs.Table.{table_of}

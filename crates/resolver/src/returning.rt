@@ -9,7 +9,7 @@ ghost use Rattle.model.specs.Derivation.{Step};
 ghost use Rattle.model.specs.Selection.{IsValidSelection};
 ghost use Rattle.model.specs.WellFormed.{IsCatalogue};
 ghost use Rattle.index_reader.specs.Folders.{Files, MemoryCalls};
-ghost use Rattle.index_reader.specs.declared.record.Skip.{Skip};
+ghost use Rattle.index_reader.specs.declared.skip.Skip.{Skip};
 ghost use Rattle.lockfile.specs.Locks.{content_of_bytes};
 ghost use Rattle.lockfile.specs.Table.{IsWritable};
 ghost use Rattle.catalogue.specs.Problems.{IsProblemOfRun, KeepsYanked};

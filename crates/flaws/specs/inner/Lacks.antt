@@ -4,7 +4,7 @@ use Rattle.std.specs.List.{list_any}
 use Rattle.semver.specs.EvalViews.{matches_views}
 use Rattle.semver.specs.Parse.{Held, Parts}
 use Rattle.model.specs.Candidates.{Record}
-use Rattle.index_reader.specs.Records.{RecordView}
+use Rattle.index_lines.specs.Records.{RecordView}
 use Rattle.flaws.specs.declared.lack.Lack.{Lack}
 use Rattle.flaws.specs.declared.lack.Lack.TheVariants.{NoPackage, NoLine, Yanked, PreReleases, NoVersion}
 

@@ -6,8 +6,8 @@ use Rattle.semver.specs.Identifiers.{parts_of}
 use Rattle.semver.specs.Parse.{Parts}
 use Rattle.semver.specs.declared.Version.{Version}
 use Rattle.index_reader.specs.Files.{same_precedence, has_version}
-use Rattle.index_reader.specs.Views.{record_view}
-use Rattle.index_reader.specs.declared.record.Record.{Record}
+use Rattle.index_lines.specs.Views.{record_view}
+use Rattle.index_lines.specs.declared.record.Record.{Record}
 
 -- a version without its build metadata
 abbrev pub bare : Parts → Parts

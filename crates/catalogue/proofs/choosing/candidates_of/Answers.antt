@@ -5,7 +5,7 @@ use Rattle.semver.specs.Eval.{precedence_cmp}
 use Rattle.semver.specs.OrderLaws.{precedence_total}
 use Rattle.classes.specs.RustVersions.{rust_version_view}
 use Rattle.model.specs.Candidates.{is_locked, may_be_locked}
-use Rattle.index_reader.specs.Views.{record_view}
+use Rattle.index_lines.specs.Views.{record_view}
 use Rattle.catalogue.specs.Loads.{packages_of_old, with_ranks}
 use Rattle.catalogue.specs.Runs.{as_record}
 use Rattle.catalogue.specs.Stores.{candidates_view}

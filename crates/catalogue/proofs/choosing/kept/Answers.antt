@@ -3,7 +3,7 @@ use Rattle.std.proofs.lemmas.List.{length-append}
 use Rattle.std.specs.Vec.Iter.{into_iter_items, into_iter_len}
 use Rattle.classes.specs.RustVersions.{rust_version_view}
 use Rattle.model.specs.Candidates.{is_locked}
-use Rattle.index_reader.specs.Views.{record_view}
+use Rattle.index_lines.specs.Views.{record_view}
 use Rattle.catalogue.specs.Loads.{packages_of_old}
 use Rattle.catalogue.specs.Runs.{as_record}
 use Rattle.catalogue.specs.Ranks.{rank_of}

@@ -1,6 +1,6 @@
 use Rattle.std.proofs.Common.{◌∙◌, ◌==◌, ap, sym}
 use Rattle.std.proofs.lemmas.List.{length-map}
-use Rattle.index_reader.specs.Views.{record_view}
+use Rattle.index_lines.specs.Views.{record_view}
 use Rattle.flaws.proofs.lack.has_none.Goals as goal
 
 pub returns : goal.returns

@@ -1,8 +1,8 @@
 use Rattle.std.proofs.Common.{◌∙◌, sym}
 use Rattle.model.proofs.Mapped.{any-map}
 use Rattle.features.specs.Views.{requirement_view}
-use Rattle.index_reader.specs.Records.{RecordView}
-use Rattle.index_reader.specs.Views.{record_view}
+use Rattle.index_lines.specs.Records.{RecordView}
+use Rattle.index_lines.specs.Views.{record_view}
 use Rattle.flaws.specs.inner.Lacks.{is_held_back}
 use Rattle.flaws.proofs.lack.would_match.Goals as goal
 

@@ -7,7 +7,7 @@ use Rattle.semver.specs.Identifiers.{parts_of}
 use Rattle.semver.specs.contracts.VersionOrd.TheImpl.{cmp-value}
 use Rattle.index_reader.specs.Files.{has_version}
 use Rattle.index_reader.specs.inner.BareVersions.{bare, has_equal}
-use Rattle.index_reader.specs.Views.{record_view}
+use Rattle.index_lines.specs.Views.{record_view}
 use Rattle.index_reader.proofs.KeptLemmas.{found-bare, agrees-more, from_not}
 use Rattle.index_reader.proofs.file_so_far.FileSoFar.with_record.Goals as goal
 

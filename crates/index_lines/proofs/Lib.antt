@@ -1,0 +1,11 @@
+pub mod ReadLemmas
+pub mod PartLemmas
+pub mod CutLemmas
+pub mod WrittenLemmas
+pub mod MadeLemmas
+pub mod KnownLemmas
+pub mod RisingLemmas
+pub mod ByPartsLemmas
+pub mod ItemsLemmas
+pub mod PlainLemmas
+pub mod RowsLemmas

@@ -1,0 +1,8 @@
+pub mod PartMembers
+pub mod ShapeViews
+pub mod Made
+pub mod Known
+pub mod ByParts
+pub mod Items
+pub mod Plain
+pub mod Rows

@@ -1,8 +1,0 @@
-use Rattle.std.proofs.Common.{◌≡◌, take}
-use Rattle.features.specs.inner.Tables.{dep_names_view}
-use Rattle.index_reader.specs.inner.Items.{item_names}
-use Rattle.index_reader.proofs.items.names.Given as goal
-
--- the names so far are those of the items so far
-abbrev pub invariant-items : goal.invariant-items
-invariant-items l = dep_names_view l.found.items ≡ item_names (take l.item-index l.items)
