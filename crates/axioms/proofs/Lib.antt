@@ -4,3 +4,11 @@ pub mod Recorded
 pub mod Featured
 pub mod PairLemmas
 pub mod GatherLemmas
+pub mod Spaces
+pub mod Rising
+pub mod Matched
+pub mod HasFeature
+pub mod Requirements
+pub mod Keeping
+pub mod Classes
+pub mod Had

@@ -4,3 +4,6 @@ pub mod Listed
 pub mod Asking
 pub mod Gathered
 pub mod Pairs
+pub mod FullTerms
+pub mod Keeping
+pub mod KeptViews

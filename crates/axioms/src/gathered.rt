@@ -4,7 +4,7 @@ ghost use Rattle.std.specs.Prelude.{◌≡◌, IfOk};
 ghost use Rattle.catalogue.specs.Problems.{problem_in};
 ghost use Rattle.axioms.specs.inner.Gathered.{is_known_feature};
 ghost use Rattle.lookups.specs.inner.NumbersViews as numbered;
-ghost use Rattle.instances.specs.inner.KeptViews as known;
+ghost use Rattle.axioms.specs.inner.KeptViews as known;
 ghost use Rattle.axioms.specs.inner.Listed.{AreLists, AreOfOwners, AreOfRows};
 ghost use Rattle.axioms.specs.inner.Pairs.{HasThose};
 ghost use Rattle.lookups.specs.inner.Views.{problem_view};
@@ -13,11 +13,11 @@ ghost use Rattle.std.specs.List.{list_any};
 
 use crate::entries::Named;
 use crate::gathering::{asked_by_root, known_features};
+use crate::instances::Kept;
 use crate::pairs::Pairs;
 use catalogue::Catalogue;
 use classes::Class;
 use features::{DependencyParts, FeatureName};
-use instances::Kept;
 use lookups::{Numbers, Problem};
 use manifest::Manifest;
 use std::alloc::{AllocError, Global};
@@ -52,7 +52,7 @@ pub struct Gathered<'a> {
 impl<'a> Gathered<'a> {
     ghost use Rattle.axioms.specs.inner.GatheredViews.{problem_of};
     ghost use Rattle.std.specs.Prelude.{IfSome};
-    ghost use Rattle.instances.specs.inner.Keeping.{AreAll};
+    ghost use Rattle.axioms.specs.inner.Keeping.{AreAll};
     ghost use Rattle.model.specs.Vertices.{dep_classes};
     ghost use Rattle.classes.specs.Classes.{class_view};
     ghost use Rattle.features.specs.Views.{dependency_view};

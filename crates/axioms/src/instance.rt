@@ -8,9 +8,9 @@ ghost use Rattle.axioms.specs.inner.GatheredViews.{problem_of};
 ghost use Rattle.lookups.specs.inner.TermViews.{term_views};
 
 use crate::gathered::Gathered;
+use crate::instances::instance_terms;
 use crate::kinds::is_cause;
 use crate::listed::keep_list_of;
-use instances::instance_terms;
 use lookups::{Cause, Term, cause_in, same_terms};
 use std::alloc::{AllocError, Global};
 use vertices::Kind;

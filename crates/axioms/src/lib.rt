@@ -1,7 +1,7 @@
 //! Whether terms are those of an instance of an axiom: each cause is looked up in the manifest and in the loaded index.
 //!
 //! Terms are an instance of a kind exactly where the one cause that they can have (`lookups`) is there and they say
-//! what its instance says (`instances`). `kinds.rt` says for each kind whether all is there that its cause names: an
+//! what its instance says (`instances.rt`). `kinds.rt` says for each kind whether all is there that its cause names: an
 //! entry in a feature, a requirement that matches some version of a class, a feature that is known of a name. A kind
 //! that takes more than a function has a file of its name; tests of entries, which several have, stand in `entries.rt`.
 //!
@@ -24,6 +24,7 @@ mod gathered;
 mod gathering;
 mod has_feature;
 mod instance;
+mod instances;
 mod kinds;
 mod listed;
 mod newest_listed;

@@ -18,8 +18,8 @@ use Rattle.lookups.specs.inner.Ranges.{is_of}
 use Rattle.catalogue.proofs.Lookups.{candidates_are}
 use Rattle.lookups.proofs.Classed.{all_classed}
 use Rattle.lookups.proofs.SetLaws.{all_map, all_filter}
-use Rattle.instances.proofs.Spaces.{classes_all}
-use Rattle.instances.specs.inner.FullTerms.{has_if_matched}
+use Rattle.axioms.proofs.Spaces.{classes_all}
+use Rattle.axioms.specs.inner.FullTerms.{has_if_matched}
 
 module _ (m : ManifestView) (c : CatalogueView) where
   pub classed : (ss : List State) (name : List ℕ) (k : Class) (vs : List Version) → map parts_of vs

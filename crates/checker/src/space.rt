@@ -12,7 +12,7 @@ ghost use Rattle.axioms.specs.inner.GatheredViews.{problem_of};
 ghost use Rattle.lookups.specs.inner.Views.{problem_view};
 ghost use Rattle.vertices.specs.Views.{vertex_view};
 ghost use Rattle.vertices.specs.inner.RefViews.{state_ref_view};
-ghost use Rattle.instances.specs.inner.FullTerms.{has_if_matched};
+ghost use Rattle.axioms.specs.inner.FullTerms.{has_if_matched};
 
 use axioms::Gathered;
 use classes::{Class, is_matched};
@@ -123,7 +123,7 @@ fn has_matching(
         .all(|version| has_if_matched(version, requirement, a, b))
 }
 
-#[tactic(auto, unfolding(instances::specs::inner::FullTerms::has_if_matched))]
+#[tactic(auto, unfolding(axioms::specs::inner::FullTerms::has_if_matched))]
 fn has_if_matched(
     version: &Version,
     requirement: &VersionReq,

@@ -1,6 +1,6 @@
 use Rattle.std.proofs.Common.{◌∙◌, ◌++◌}
 use Rattle.features.specs.Views.{dependency_view}
-use Rattle.instances.proofs.Spaces.{classes_full}
+use Rattle.axioms.proofs.Spaces.{classes_full}
 use Rattle.checker.proofs.space.has_matched.Goals as goal
 
 pub returns : goal.returns

@@ -2,7 +2,7 @@ use Rattle.std.proofs.Common.{subst}
 use Rattle.std.proofs.lemmas.Option.{IfSome_then}
 use Rattle.features.specs.Views.{dependency_view}
 use Rattle.model.specs.Vertices.{dep_classes}
-use Rattle.instances.specs.inner.Keeping.{AreAll}
+use Rattle.axioms.specs.inner.Keeping.{AreAll}
 use Rattle.axioms.proofs.gathered.Gathered.classes.Goals as goal
 
 pub returns : goal.returns

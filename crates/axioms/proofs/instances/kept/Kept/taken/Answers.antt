@@ -1,0 +1,15 @@
+use Rattle.std.proofs.Common.{◌∙◌, ap, sym}
+use Rattle.classes.specs.Classes.{class_view}
+use Rattle.features.specs.Views.{requirement_view}
+use Rattle.axioms.specs.inner.Keeping.{ClassAsk, taken_in}
+use Rattle.axioms.specs.inner.KeptViews.{problem_of}
+use Rattle.axioms.proofs.instances.kept.Kept.taken.Goals as goal
+
+pub returns-in-Some : goal.returns-in-Some
+returns-in-Some c =
+    let d = c.args.dependency in
+    let place : ClassAsk =
+    ((record { ref_ptr = d.ref_ptr; now = d.now.real_name }, c.deref-requirement.result), c.args.class) in
+    c.args.self.now.are_taken place c.in-Some.states.now (sym c.in-Some.ensures.value)
+    ∙ ap (λ r. taken_in (problem_of c.args.self.now) d.now.real_name (requirement_view r) (class_view c.args.class))
+    c.deref-requirement.ensures

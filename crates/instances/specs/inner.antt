@@ -1,3 +1,0 @@
-pub mod FullTerms
-pub mod Keeping
-pub mod KeptViews
