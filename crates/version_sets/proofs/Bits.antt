@@ -53,10 +53,10 @@ bit_and_is x y j =
 pub bit_not_is : (x j : ℕ) → x < 2 ^ 64 → j < 64 → bit_is (bit_not w64 x) j ≡ not (bit_is x j)
 bit_not_is x j fits low = ap (λ k. eqb k 1) (bit_at_not w64 x j fits low) ∙ test_turned (bit_at x j) (bit_at-lt x j)
 
-bit_zero : (j : ℕ) → bit_is 0 j ≡ false
+pub bit_zero : (j : ℕ) → bit_is 0 j ≡ false
 bit_zero j = ap (λ k. eqb k 1) (bit_at-zero j)
 
-bit_same : (x y j : ℕ) → bit_is x j ≡ bit_is y j → bit_at x j ≡ bit_at y j
+pub bit_same : (x y j : ℕ) → bit_is x j ≡ bit_is y j → bit_at x j ≡ bit_at y j
 bit_same x y j e = by (bit_at x j) (bit_at y j) (bit_at-lt x j) (bit_at-lt y j) e
   where
     by : (a b : ℕ) → a < 2 → b < 2 → eqb a 1 ≡ eqb b 1 → a ≡ b
@@ -133,7 +133,7 @@ and_is n a b p q = set_agree (has_bit (zip2 bit_and a b)) (λ i. has_bit a i && 
 pub word_within : (n : ℕ) (ws : List ℕ) (i : ℕ) → length ws ≡ (n - 1) / 64 + 1 → i < n → i / 64 < length ws
 word_within n ws i long within = omega arith
 
-get_or-map_under : (xs : List ℕ) (k : ℕ) → k < length xs
+pub get_or-map_under : (xs : List ℕ) (k : ℕ) → k < length xs
     → get_or (map (bit_not w64) xs) k 0 ≡ bit_not w64 (get_or xs k 0)
 get_or-map_under [] k low = absurd (omega arith)
 get_or-map_under (x ∷ xs) zero low = refl
@@ -149,18 +149,18 @@ turned_is n ws p =
     ∙ sym (rest_where n (has_bit ws))
 
 -- tests of whole lists
-both_ways : (b c : Bool) → (b ≡ true → c ≡ true) → (c ≡ true → b ≡ true) → b ≡ c
+pub both_ways : (b c : Bool) → (b ≡ true → c ≡ true) → (c ≡ true → b ≡ true) → b ≡ c
 both_ways true true f g = refl
 both_ways false false f g = refl
 both_ways true false f g = sym (f refl)
 both_ways false true f g = g refl
 
-zeros_at : (xs : List ℕ) (k : ℕ) → all_zero xs ≡ true → k < length xs → get_or xs k 0 ≡ 0
+pub zeros_at : (xs : List ℕ) (k : ℕ) → all_zero xs ≡ true → k < length xs → get_or xs k 0 ≡ 0
 zeros_at [] k h low = absurd (omega arith)
 zeros_at (x ∷ xs) zero h low = eqb-true x 0 (and_parts (eqb x 0) (all_zero xs) h).0
 zeros_at (x ∷ xs) (suc k) h low = zeros_at xs k (and_parts (eqb x 0) (all_zero xs) h).1 (omega arith)
 
-zeros_from : (xs : List ℕ) → ((k : ℕ) → k < length xs → get_or xs k 0 ≡ 0) → all_zero xs ≡ true
+pub zeros_from : (xs : List ℕ) → ((k : ℕ) → k < length xs → get_or xs k 0 ≡ 0) → all_zero xs ≡ true
 zeros_from [] h = refl
 zeros_from (x ∷ xs) h =
     and_from (eqb x 0) (all_zero xs) (eq-eqb x 0 (h 0 (omega arith))) (zeros_from xs (λ k low. h (suc k) (omega arith)))
@@ -188,7 +188,7 @@ no_bits : (w : ℕ) → w < 2 ^ 64 → ((j : ℕ) → j < 64 → bit_is w j ≡ 
 no_bits w fits none =
     same_from_bits_below 64 w 0 fits (omega arith) (λ j low. bit_same w 0 j (none j low ∙ sym (bit_zero j)))
 
-and_not_bit : (x y j : ℕ) → y < 2 ^ 64 → j < 64 → bit_is (and_not x y) j ≡ (bit_is x j && not (bit_is y j))
+pub and_not_bit : (x y j : ℕ) → y < 2 ^ 64 → j < 64 → bit_is (and_not x y) j ≡ (bit_is x j && not (bit_is y j))
 and_not_bit x y j fits low = bit_and_is x (bit_not w64 y) j ∙ ap (λ b. bit_is x j && b) (bit_not_is y j fits low)
 
 -- the numbers of a set as bits of its words

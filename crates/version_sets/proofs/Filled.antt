@@ -21,7 +21,7 @@ use Rattle.version_sets.specs.inner.Words.{IsWords, has_bit, ones_in}
 use Rattle.version_sets.proofs.Bits.{bit_and_is, bit_is, none_past}
 use Rattle.version_sets.proofs.Laws.{size-le}
 use Rattle.version_sets.proofs.Listing.{every_where, length-set_where, map_agree_from, none_where, only_where}
-use Rattle.version_sets.proofs.Listing.{set_agree}
+use Rattle.version_sets.proofs.Listing.{range_split, set_agree}
 
 -- the words cut at the universe: the last word r keeps its c lowest bits
 module _ (n : ℕ) (ws : List ℕ) (r c v : ℕ) (long : length ws ≡ r + 1) (r_is : r ≡ (n - 1) / 64) (c_is : c ≡ n - 64 * r)
@@ -71,7 +71,7 @@ module _ (n : ℕ) (ws : List ℕ) (r c v : ℕ) (long : length ws ≡ r + 1) (r
       and_false true = refl
       and_false false = refl
 
-word_fits : (x : ℕ) → x < 2 ^ 64 → (k : ℕ) → get_or (x ∷ []) k 0 < 2 ^ 64
+pub word_fits : (x : ℕ) → x < 2 ^ 64 → (k : ℕ) → get_or (x ∷ []) k 0 < 2 ^ 64
 word_fits x h zero = h
 word_fits x h (suc k) = omega arith
 
@@ -123,22 +123,6 @@ ones_are n k e = set_agree (has_bit (replicate k (2 ^ 64 - 1))) (λ _. true) n (
     ap (λ w. bit_is w (i % 64)) (get_or-all k (2 ^ 64 - 1) (i / 64) place)
     ∙ ap (λ b. eqb b 1) (bit_at_ones 64 (i % 64) (omega arith)))
     ∙ sym (every_where n)
-
--- such words fit
-pub filled_fits : (r v : ℕ) → v < 2 ^ 64 → (k : ℕ) → get_or (replicate r v) k 0 < 2 ^ 64
-filled_fits r v h k = elim (cases_lt k r) [
-  | inl low ↦ subst (λ w. w < 2 ^ 64) (sym (get_or-all r v k low)) h
-  | inr past ↦ subst (λ w. w < 2 ^ 64)
-      (sym (get_or_past (replicate r v) k 0 (omega (arith, length-replicate {A = ℕ} r v)))) (omega arith)
-]
-
-pub zero_words : (n k : ℕ) → n ≤ 65536 → k ≡ (n - 1) / 64 + 1 → IsWords n (replicate k 0)
-zero_words n k small e = record {
-  small = small;
-  long = length-replicate {A = ℕ} k 0 ∙ e;
-  fits = filled_fits k 0 (omega arith);
-  clear = λ i past. zero_bits k i;
-}
 
 pub turned_fits : (ws : List ℕ) (k : ℕ) → get_or (map (bit_not w64) ws) k 0 < 2 ^ 64
 turned_fits [] k = omega arith
@@ -228,7 +212,7 @@ mask_is k w fits = same_from_bits_below k (mask_l (map (bit_is w) (range_with_le
     bit_back (suc zero) h = refl
     bit_back (suc (suc b)) h = absurd (omega arith)
 
-ones_word : (k w : ℕ) → w < 2 ^ k → size (map (bit_is w) (range_with_len 0 k)) ≡ count_ones w
+pub ones_word : (k w : ℕ) → w < 2 ^ k → size (map (bit_is w) (range_with_len 0 k)) ≡ count_ones w
 ones_word k w fits =
     is_count_by (λ xs. size (map (bit_is w) xs)) (bit_is w) refl
     (λ x xs. count_step (bit_is w x) (map (bit_is w) xs)) (range_with_len 0 k)
@@ -238,15 +222,6 @@ size-append : (xs ys : Members) → size (xs ++ ys) ≡ size xs + size ys
 size-append [] ys = omega arith
 size-append (true ∷ xs) ys = omega (arith, size-append xs ys)
 size-append (false ∷ xs) ys = size-append xs ys
-
-range_split : (p : ℕ → Bool) (a m k : ℕ)
-    → map p (range_with_len a (m + k)) ≡ map p (range_with_len a m) ++ map p (range_with_len (a + m) k)
-range_split p a zero k = ap₂ (λ x y. map p (range_with_len x y)) (omega arith) (omega arith)
-range_split p a (suc m) k =
-    let more : suc m + k ≡ suc (m + k) = omega arith in
-    let next : (a + 1) + m ≡ a + suc m = omega arith in
-    ap (λ l. map p (range_with_len a l)) more ∙ ap (λ l. p a ∷ l)
-    (range_split p (a + 1) m k ∙ ap (λ b. map p (range_with_len (a + 1) m) ++ map p (range_with_len b k)) next)
 
 range_shift : (p : ℕ → Bool) (a k m : ℕ) → map p (range_with_len (a + k) m) ≡ map (λ i. p (i + k)) (range_with_len a m)
 range_shift p a k zero = refl

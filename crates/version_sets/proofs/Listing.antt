@@ -1,9 +1,10 @@
 -- The set of the numbers that pass a test, and the list of them.
 use Rattle.std.proofs.Common.{◌≡◌, ℕ, zero, suc, ◌+◌, ◌<◌, ◌≤◌, ◌≢◌, Bool, true, false, cond, not, ◌&&◌, ◌||◌, eqb}
-use Rattle.std.proofs.Common.{List, [], ◌∷◌, length, map, replicate, set, get_or, refl, ap, ap₂, sym, ◌∙◌, subst, arith}
+use Rattle.std.proofs.Common.{List, [], ◌∷◌, ◌++◌, length, map, replicate, set, get_or, refl, ap, ap₂, sym, ◌∙◌, subst}
+use Rattle.std.proofs.Common.{arith}
 use Rattle.std.proofs.Common.{◌⊎◌, inl, inr, Result, Ok, Err, MatchResult, is_ok, nat_cmp}
 use Rattle.std.proofs.lemmas.Bool.{cases_eq, cases_lt, eq-eqb, ne_eqb, or_right}
-use Rattle.std.proofs.lemmas.List.{get_or_past}
+use Rattle.std.proofs.lemmas.List.{get_or_past, map-append}
 use Rattle.std.proofs.lemmas.List.Kept.{IsNonDecreasingBy-filter}
 use Rattle.std.proofs.lemmas.List.Sorted.{searched}
 use Rattle.std.specs.List.Sorted.{IsBinarySearchResult, IsNonDecreasingBy}
@@ -35,6 +36,20 @@ set_agree p q n same = map_agree_from p q 0 n (λ i low high. same i (omega arit
 
 pub list_agree : (p q : ℕ → Bool) (n : ℕ) → ((i : ℕ) → i < n → p i ≡ q i) → list_where n p ≡ list_where n q
 list_agree p q n same = filter_agree_from p q 0 n (λ i low high. same i (omega arith))
+
+-- a range, one part after another
+pub range_append : (a m k : ℕ) → range_with_len a (m + k) ≡ range_with_len a m ++ range_with_len (a + m) k
+range_append a zero k = ap₂ range_with_len (omega arith) (omega arith)
+range_append a (suc m) k =
+    let more : suc m + k ≡ suc (m + k) = omega arith in
+    let next : (a + 1) + m ≡ a + suc m = omega arith in
+    ap (range_with_len a) more ∙ ap (λ l. a ∷ l)
+    (range_append (a + 1) m k ∙ ap (λ b. range_with_len (a + 1) m ++ range_with_len b k) next)
+
+pub range_split : (p : ℕ → Bool) (a m k : ℕ)
+    → map p (range_with_len a (m + k)) ≡ map p (range_with_len a m) ++ map p (range_with_len (a + m) k)
+range_split p a m k =
+    ap (map p) (range_append a m k) ∙ map-append p (range_with_len a m) (range_with_len (a + m) k)
 
 -- what is listed
 unlisted_step : (b : Bool) (a i : ℕ) (ms : List ℕ) → a ≢ i → is_listed ms i ≡ false
@@ -166,7 +181,7 @@ pub size_where : (n : ℕ) (p : ℕ → Bool) → length (list_where n p) ≡ si
 size_where n p = size_from p 0 n
 
 -- the sets with no number, with every number and with one number
-const_from : (b : Bool) (a n : ℕ) → replicate n b ≡ map (λ _. b) (range_with_len a n)
+pub const_from : (b : Bool) (a n : ℕ) → replicate n b ≡ map (λ _. b) (range_with_len a n)
 const_from b a zero = refl
 const_from b a (suc n) = ap (λ bs. b ∷ bs) (const_from b (a + 1) n)
 
@@ -176,11 +191,11 @@ none_where n = const_from false 0 n
 pub every_where : (n : ℕ) → every n ≡ set_where n (λ _. true)
 every_where n = const_from true 0 n
 
-filter_none_from : (a n : ℕ) → filter (λ _. false) (range_with_len a n) ≡ []
+pub filter_none_from : (a n : ℕ) → filter (λ _. false) (range_with_len a n) ≡ []
 filter_none_from a zero = refl
 filter_none_from a (suc n) = filter_none_from (a + 1) n
 
-filter_every_from : (a n : ℕ) → filter (λ _. true) (range_with_len a n) ≡ range_with_len a n
+pub filter_every_from : (a n : ℕ) → filter (λ _. true) (range_with_len a n) ≡ range_with_len a n
 filter_every_from a zero = refl
 filter_every_from a (suc n) = ap (λ ms. a ∷ ms) (filter_every_from (a + 1) n)
 

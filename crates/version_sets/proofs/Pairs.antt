@@ -1,5 +1,6 @@
 -- What holds of a set by its words, and of two sets of one universe.
-use Rattle.std.proofs.Common.{◌≡◌, ℕ, ◌+◌, ◌^◌, ◌<◌, ◌≤◌, ◌↔◌, not, List, [], ◌∷◌, length, map}
+use Rattle.std.proofs.Common.{◌≡◌, ℕ, ◌+◌, ◌-◌, ◌*◌, ◌/◌, ◌^◌, ◌<◌, ◌≤◌, ◌↔◌, false, true, refl, not, List, [], ◌∷◌}
+use Rattle.std.proofs.Common.{get_or, length, map, Box, Global}
 use Rattle.std.proofs.Common.{bit_and, bit_or, eqb, ap, ap₂, sym, ◌∙◌, subst, arith, eq-eqb, Result}
 use Rattle.std.proofs.Math.Bool.{and-true}
 use Rattle.std.proofs.lemmas.Bool.{eqb-true}
@@ -8,15 +9,19 @@ use Rattle.std.specs.Int.{bit_not, w64}
 use Rattle.std.specs.Int.RustNames.{count_ones}
 use Rattle.std.specs.Prelude.{IfOk, IsTrue}
 use Rattle.std.specs.Simd.Lanes.{zip2}
-use Rattle.version_sets.specs.inner.Forms.{universe_in, words_in}
+use Rattle.version_sets.specs.inner.Forms.{universe_in, wide_words, words_in}
 use Rattle.version_sets.specs.inner.Listed.{set_where}
 use Rattle.version_sets.specs.Sets.{Members, has, inside, join, meet, meets, rest, size}
 use Rattle.version_sets.specs.inner.Words.{AreWords, IsWords, all_zero, and_not, has_bit, ones_in}
+use Rattle.version_sets.specs.declared.wide.Wide.{Wide}
 use Rattle.version_sets.specs.declared.words.Form.{Form}
-use Rattle.version_sets.proofs.Bits.{and_is, apart_is, has_is, or_is, same_words, turned_is, within_is, words_and}
-use Rattle.version_sets.proofs.Bits.{words_or}
+use Rattle.version_sets.specs.declared.words.Form.TheVariants.{Many, One}
+use Rattle.version_sets.proofs.Bits.{and_is, apart_is, bit_in_word, bit_is, has_is, or_is, same_words, turned_is}
+use Rattle.version_sets.proofs.Bits.{within_is, words_and}
+use Rattle.version_sets.proofs.Bits.{both_ways, words_or}
 use Rattle.version_sets.proofs.Filled.{ones_are_size, ones_bound}
-use Rattle.version_sets.proofs.Listing.{length-set_where}
+use Rattle.version_sets.proofs.Listing.{length-set_where, same_set}
+use Rattle.version_sets.proofs.Within.{inside_has}
 
 -- a set as it lies in memory, by its words
 module _ (f : Form) (s : Members) (is : IsWords (universe_in f) (words_in f))
@@ -33,6 +38,15 @@ module _ (f : Form) (s : Members) (is : IsWords (universe_in f) (words_in f))
   pub form_small : length s ≤ 65536
   form_small = omega (arith, form_universe, is.small)
 
+  pub many_large : (b : Box Wide Global) → f ≡ Many b → 64 < length s
+  many_large b e = omega (arith, b.value.rest.large, ap universe_in e, form_universe)
+
+  pub one_words : (n w : ℕ) → f ≡ One n w → AreWords s (w ∷ [])
+  one_words n w e = subst (λ g. AreWords s (words_in g)) e form_words
+
+  pub wide_words_are : (b : Box Wide Global) → f ≡ Many b → AreWords s (wide_words b.value)
+  wide_words_are b e = subst (λ g. AreWords s (words_in g)) e form_words
+
 -- one set
 module _ (s : Members) (ws : List ℕ) (p : AreWords s ws) (n : ℕ) (n_is : n ≡ length s) where
   pub its_words : IsWords n ws
@@ -43,6 +57,14 @@ module _ (s : Members) (ws : List ℕ) (p : AreWords s ws) (n : ℕ) (n_is : n �
 
 pub member_is : (s : Members) (ws : List ℕ) (i : ℕ) → AreWords s ws → has_bit ws i ≡ has s i
 member_is s ws i p = sym (has_is (length s) ws ws p.is p.is ws p.is i) ∙ ap (λ t. has t i) p.same
+
+-- a place of a word is a number of the set
+pub word_number : (s : Members) (ws : List ℕ) → AreWords s ws → (k j : ℕ) → j < 64
+    → bit_is (get_or ws k 0) j ≡ has s (64 * k + j)
+word_number s ws p k j low = sym (bit_in_word ws k j low) ∙ member_is s ws (64 * k + j) p
+
+pub lone_small : (s : Members) (w : ℕ) → AreWords s (w ∷ []) → length s ≤ 64
+lone_small s w p = (let long : 1 ≡ (length s - 1) / 64 + 1 = p.is.long in omega arith)
 
 pub count_is : (s : Members) (ws : List ℕ) → AreWords s ws → ones_in ws ≡ size s
 count_is s ws p = ones_are_size (length s) ws p.is ∙ ap size p.same
@@ -114,3 +136,13 @@ lone_same xs ys x y p q same = (
   (λ t. pair_from xs ys (x ∷ []) (y ∷ []) p q same (ap (λ w. w ∷ []) (eqb-true x y t))),
   (λ e. (let words = pair_words xs ys (x ∷ []) (y ∷ []) p q same e in eq-eqb x y cc)),
 )
+
+-- two sets that lie in each other are one
+pub both_inside : (xs ys : Members) → length xs ≡ length ys → inside xs ys ≡ true → inside ys xs ≡ true → xs ≡ ys
+both_inside xs ys wide here there = same_set xs ys wide
+    (λ i low. both_ways (has xs i) (has ys i) (inside_has xs ys i here) (inside_has ys xs i there))
+
+pub inside_itself : (xs : Members) → inside xs xs ≡ true
+inside_itself [] = refl
+inside_itself (true ∷ xs) = inside_itself xs
+inside_itself (false ∷ xs) = inside_itself xs

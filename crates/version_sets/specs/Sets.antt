@@ -1,7 +1,7 @@
 -- Sets of numbers below a universe, each as the list of its tests, with the operations of set theory on them (Dart
 -- pub's `solver.md`, "Term": a term is a set of allowed versions).
-use Rattle.std.specs.Prelude.{ℕ, ◌+◌, Bool, true, false, not, ◌&&◌, ◌||◌, List, [], ◌∷◌, map, replicate, slice_index_or}
-use Rattle.std.specs.Prelude.{slice_set}
+use Rattle.std.specs.Prelude.{ℕ, ◌+◌, ◌-◌, Bool, true, false, not, ◌&&◌, ◌||◌, List, [], ◌∷◌, ◌++◌, map, replicate}
+use Rattle.std.specs.Prelude.{slice_index_or, slice_set}
 use Rattle.std.specs.List.{list_all, zip}
 
 -- for each number below the universe, whether the set has it; the universe is the length
@@ -12,7 +12,7 @@ Members = List Bool
 abbrev pub has : Members → ℕ → Bool
 has s i = slice_index_or s i false
 
--- the sets with no number, with every number and with one number
+-- the sets with no number, with every number, with one number and with those from one number on and below another
 abbrev pub none : ℕ → Members
 none n = replicate n false
 
@@ -21,6 +21,9 @@ every n = replicate n true
 
 abbrev pub only : ℕ → ℕ → Members
 only n i = slice_set (none n) i true
+
+abbrev pub between : ℕ → ℕ → ℕ → Members
+between n from to = replicate from false ++ (replicate (to - from) true ++ replicate (n - to) false)
 
 -- the numbers of both sets, of either, and those that a set lacks
 abbrev pub meet : Members → Members → Members

@@ -1,3 +1,4 @@
 pub mod Listed
 pub mod Words
+pub mod Windows
 pub mod Forms

@@ -1,12 +1,64 @@
--- How a set of words lies in memory: one word in place, or all of them behind one pointer.
-use Rattle.std.specs.Prelude.{ℕ, List, [], ◌∷◌}
+-- How a set of words lies in memory: one word in place, or the first word and a window of the others behind a pointer.
+use Rattle.std.specs.Prelude.{◌≡◌, ℕ, ◌+◌, ◌-◌, ◌≤◌, List, [], ◌∷◌, min}
+use Rattle.version_sets.specs.declared.wide.Wide.{Wide}
+use Rattle.version_sets.specs.declared.window.Window.{Window}
 use Rattle.version_sets.specs.declared.words.Form.{Form}
 use Rattle.version_sets.specs.declared.words.Form.TheVariants.{Many, One}
+use Rattle.version_sets.specs.inner.Listed.{set_where}
+use Rattle.version_sets.specs.inner.Windows.{IsFlanked, spread, words_for}
+use Rattle.version_sets.specs.inner.Words.{IsWords, has_bit}
+use Rattle.version_sets.specs.Sets.{Members}
+
+abbrev pub all_words : Window → List ℕ
+all_words w = spread w.universe w.low w.first w.words.items w.high
+
+-- the window is of the universe without the first 64 numbers
+abbrev pub universe_of : Wide → ℕ
+universe_of w = 64 + w.rest.universe
+
+abbrev pub wide_words : Wide → List ℕ
+wide_words w = w.head ∷ all_words w.rest
 
 abbrev pub universe_in : Form → ℕ
 universe_in (One n w) = n
-universe_in (Many n ws) = n
+universe_in (Many w) = universe_of w.value
 
 abbrev pub words_in : Form → List ℕ
 words_in (One n w) = w ∷ []
-words_in (Many n ws) = ws.value.items
+words_in (Many w) = wide_words w.value
+
+-- a window of a universe with these words
+pub record HasWords (n : ℕ) (ws : List ℕ) (w : Window) : Type 0 where
+  pub universe : w.universe ≡ n
+  pub words : all_words w ≡ ws
+
+-- a window of a set
+pub record IsWindow (n : ℕ) (s : Members) (w : Window) : Type 0 where
+  pub universe : w.universe ≡ n
+  pub words : IsWords w.universe (all_words w)
+  pub set : set_where n (has_bit (all_words w)) ≡ s
+
+-- the same of a first word and a window
+pub record HasWideWords (n : ℕ) (ws : List ℕ) (w : Wide) : Type 0 where
+  pub universe : universe_of w ≡ n
+  pub words : wide_words w ≡ ws
+
+pub record IsWide (n : ℕ) (s : Members) (w : Wide) : Type 0 where
+  pub universe : universe_of w ≡ n
+  pub words : IsWords (universe_of w) (wide_words w)
+  pub set : set_where n (has_bit (wide_words w)) ≡ s
+
+-- places between which the words of either window may be unlike those at its ends
+pub record IsHull (a b : Window) (from to : ℕ) : Type 0 where
+  pub rising : from ≤ to
+  pub within : to ≤ words_for a.universe
+  pub first : IsFlanked a.universe a.low a.high (all_words a) from to
+  pub second : IsFlanked b.universe b.low b.high (all_words b) from to
+
+-- the same with one place more at either end
+pub record IsHullAndEnds (a b : Window) (from to : ℕ) : Type 0 where
+  pub first : ℕ
+  pub last : ℕ
+  pub hull : IsHull a b first last
+  pub from_is : from ≡ first - 1
+  pub to_is : to ≡ min (words_for a.universe) (last + 1)
