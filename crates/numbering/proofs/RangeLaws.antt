@@ -16,13 +16,14 @@ not_each : {X : Type 0} (p : X → Bool) (xs : List X) → map (λ x. not (p x))
 not_each p [] = refl
 not_each p (x ∷ xs) = ap (λ bs. not (p x) ∷ bs) (not_each p xs)
 
-outside : (i j n : ℕ) → map not (tests_of_range i j n)
-    ≡ replicate i true ++ (replicate (j - i) false ++ replicate (n - j) true)
-outside i j n =
-    map-append not (replicate i false) (replicate (j - i) true ++ replicate (n - j) false)
+-- those before a range, in it and after it, turned
+pub outside : (i j k : ℕ) → map not (replicate i false ++ (replicate j true ++ replicate k false))
+    ≡ replicate i true ++ (replicate j false ++ replicate k true)
+outside i j k =
+    map-append not (replicate i false) (replicate j true ++ replicate k false)
     ∙ ap₂ (λ a b. a ++ b) (all_not i false)
-    (map-append not (replicate (j - i) true) (replicate (n - j) false)
-    ∙ ap₂ (λ a b. a ++ b) (all_not (j - i) true) (all_not (n - j) false))
+    (map-append not (replicate j true) (replicate k false)
+    ∙ ap₂ (λ a b. a ++ b) (all_not j true) (all_not k false))
 
 pub left_is : (cs : List Held) (vs : List Version) (i j : ℕ)
     → map (λ w. matches_views cs (parts_of w)) vs ≡ tests_of_range i j (length vs)
@@ -30,4 +31,4 @@ pub left_is : (cs : List Held) (vs : List Version) (i j : ℕ)
     ≡ replicate i true ++ (replicate (j - i) false ++ replicate (length vs - j) true)
 unfolding is_left
 left_is cs vs i j e =
-    not_each (λ w. matches_views cs (parts_of w)) vs ∙ ap (map not) e ∙ outside i j (length vs)
+    not_each (λ w. matches_views cs (parts_of w)) vs ∙ ap (map not) e ∙ outside i (j - i) (length vs - j)

@@ -1,12 +1,11 @@
--- The number of a state that stands alone, and tests as they are filled up.
-use Rattle.std.proofs.Common.{◌≡◌, ℕ, zero, suc, ◌+◌, ◌-◌, ◌<◌, ◌≤◌, Bool, true, false, not, cond, List, [], ◌∷◌, ◌++◌}
-use Rattle.std.proofs.Common.{length, map, take, replicate, option_map, Some, None, refl, sym, ap, ap₂, ◌∙◌}
+-- The number of a state that stands alone.
+use Rattle.std.proofs.Common.{◌≡◌, ℕ, zero, suc, ◌+◌, ◌<◌, ◌≤◌, Bool, true, false, not, cond, List, [], ◌∷◌}
+use Rattle.std.proofs.Common.{length, map, option_map, Some, None, refl, sym, ap, ap₂, ◌∙◌}
 use Rattle.std.proofs.Common.{arith, inl, inr}
 use Rattle.std.specs.List.{position, position_or_len}
 use Rattle.std.proofs.Math.Dec.{ltb}
 use Rattle.std.proofs.lemmas.Bool.{cases_lt, le-ltb, lt-ltb}
-use Rattle.std.proofs.lemmas.List.{append_assoc, length-append, length-map, length-replicate, length-set}
-use Rattle.std.proofs.lemmas.List.{take_all}
+use Rattle.std.proofs.lemmas.List.{length-map, length-replicate, length-set}
 use Rattle.model.specs.Selection.{Class}
 use Rattle.model.specs.Vertices.{same_class}
 use Rattle.version_sets.specs.Sets.{none, only}
@@ -69,36 +68,3 @@ pub class_after_absent : (k : Class) (ms : List Class) → position (λ b. b) (f
     ≡ option_map (λ n. suc n) (position (λ m. same_class m k) ms)
 unfolding is_class
 class_after_absent k ms = after_absent (is_class k) ms
-
--- ---- tests that are filled up
-
--- a list of a length filled up to a greater one
-filled_on : (xs ys : List Bool) (n m k : ℕ) (b : Bool) → ys ≡ take m xs ++ replicate (m - k) b → length xs ≡ n → k ≡ n
-    → n ≤ m → (ys ≡ xs ++ replicate (m - n) b) × (length ys ≡ m)
-filled_on xs ys n m k b is long same le = (
-  whole,
-  ap length whole ∙ length-append xs (replicate (m - n) b) ∙ ap (λ c. length xs + c) (length-replicate (m - n) b)
-      ∙ (let all : length xs + (m - n) ≡ m = omega (arith, long, le) in all),
-)
-  where
-    whole : ys ≡ xs ++ replicate (m - n) b
-    whole = is ∙ ap₂ (λ zs c. zs ++ replicate (m - c) b) (take_all m xs (omega (arith, long, le))) same
-
-pub filled_range : (b : Bool) (i j n : ℕ) → i ≤ j → j ≤ n → (xs ys zs ws : List Bool) (k l m : ℕ)
-    → xs ≡ [] → k ≡ 0 → ys ≡ take (i + 1) xs ++ replicate (i + 1 - k) (not b)
-    → l ≡ i + 1 → zs ≡ take (j + 1) ys ++ replicate (j + 1 - l) b
-    → m ≡ j + 1 → ws ≡ take (n + 1) zs ++ replicate (n + 1 - m) (not b)
-    → ws ≡ not b ∷ (replicate i (not b) ++ (replicate (j - i) b ++ replicate (n - j) (not b)))
-filled_range b i j n low high xs ys zs ws k l m e0 k0 e1 l1 e2 m2 e3 =
-    let first = filled_on xs ys 0 (i + 1) k (not b) e1 (ap length e0) k0 (omega arith) in
-    let second = filled_on ys zs (i + 1) (j + 1) l b e2 first.1 l1 (omega (arith, low)) in
-    let third = filled_on zs ws (j + 1) (n + 1) m (not b) e3 second.1 m2 (omega (arith, high)) in
-    let one : i + 1 - 0 ≡ suc i = omega arith in
-    let two : j + 1 - (i + 1) ≡ j - i = omega arith in
-    let three : n + 1 - (j + 1) ≡ n - j = omega arith in
-    third.0
-    ∙ ap (λ c. zs ++ replicate c (not b)) three
-    ∙ ap (λ l. l ++ replicate (n - j) (not b)) (second.0 ∙ ap (λ c. ys ++ replicate c b) two)
-    ∙ append_assoc ys (replicate (j - i) b) (replicate (n - j) (not b))
-    ∙ ap (λ l. l ++ (replicate (j - i) b ++ replicate (n - j) (not b)))
-    (first.0 ∙ ap₂ (λ l c. l ++ replicate c (not b)) e0 one)

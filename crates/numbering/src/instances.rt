@@ -1,6 +1,7 @@
 //! Instances of axioms as incompatibilities over numbers.
 
-ghost use Rattle.std.specs.Prelude.{◌≡◌, ◌++◌, ◌∷◌, ◌≤◌, [], true, length, Contains, List, IfOk, OnOk};
+ghost use Rattle.std.specs.Prelude.{◌≡◌, ◌++◌, ◌∷◌, ◌≤◌, ◌+◌, [], true, false, length, replicate, Contains, List, IfOk};
+ghost use Rattle.std.specs.Prelude.{OnOk};
 ghost use Rattle.std.specs.List.{AllByRecursion};
 ghost use Rattle.terms.specs.Terms.{terms_view};
 ghost use Rattle.refutations.specs.Causes.{is_cause, terms_of_cause};
@@ -9,12 +10,11 @@ ghost use Rattle.numbering.specs.inner.KnownProblem.{problem};
 ghost use Rattle.numbering.specs.Numberings.{AddsOnly, IsGrown, IsNumbering, Says};
 ghost use Rattle.numbering.specs.Pairs.{spoken_by};
 ghost use Rattle.numbering.specs.inner.TestedTerms.{AreOfTested, IsFitting, TestedTerm as TestedView, tested_view};
-ghost use Rattle.numbering.specs.inner.TestedTerms.{states_view, tested_views, vertices_of};
-ghost use Rattle.version_sets.specs.Sets.{only};
+ghost use Rattle.numbering.specs.inner.TestedTerms.{lone_view, range_view, states_view, tested_views, vertices_of};
 
 use crate::known_problem::KnownProblem;
 use crate::making::made_of;
-use crate::space_tests::Tests;
+use crate::space_tests::{Lone, Range, Tests};
 use crate::table::Table;
 use crate::tested_terms::{TestedTerm, terms_tested};
 use catalogue::catalogues_are_well_formed;
@@ -96,18 +96,43 @@ fn set_of<S: States + Drop>(alloc: Global, tests: &Tests) -> Result<S, AllocErro
 {
     match tests {
         Tests::Each(tests) => S::of_tests(alloc, tests.as_slice()),
-        Tests::One { states, state } => one_of(alloc, *states, *state),
+        Tests::One(lone) => one_of(alloc, lone),
+        Tests::Range(range) => set_of_range(alloc, range),
     }
 }
 
 /// One of so many states, or none if it lies past them.
-fn one_of<S: States + Drop>(alloc: Global, states: usize, state: usize) -> Result<S, AllocError>
-    requires { states ≤ 65536 }
-    ensures { IfOk result (λ s. S.tests s ≡ only states state) }
+fn one_of<S: States + Drop>(alloc: Global, lone: &Lone) -> Result<S, AllocError>
+    requires { lone.now.states ≤ 65536 }
+    ensures { IfOk result (λ s. S.tests s ≡ lone_view lone.now) }
 {
-    if state < states {
-        S::single(alloc, states as u32, state as u32)
+    if lone.state < lone.states {
+        S::single(alloc, lone.states as u32, lone.state as u32)
     } else {
-        S::empty(alloc, states as u32)
+        S::empty(alloc, lone.states as u32)
     }
+}
+
+/// The states in a range, or the others.
+fn set_of_range<S: States + Drop>(alloc: Global, range: &Range) -> Result<S, AllocError>
+    requires { range.now.before + (range.now.within + range.now.after) ≤ 65536 }
+    ensures { IfOk result (λ s. S.tests s ≡ range_view range.now) }
+{
+    let within: S = states_within(alloc, range)?;
+    if range.inside {
+        Ok(within)
+    } else {
+        within.complement(alloc)
+    }
+}
+
+/// The states in a range.
+fn states_within<S: States + Drop>(alloc: Global, range: &Range) -> Result<S, AllocError>
+    requires { range.now.before + (range.now.within + range.now.after) ≤ 65536 }
+    ensures { IfOk result (λ s. S.tests s ≡ replicate range.now.before false
+        ++ (replicate range.now.within true ++ replicate range.now.after false)) }
+{
+    let from = range.before as u32;
+    let to = from + range.within as u32;
+    S::of_range(alloc, to + range.after as u32, from, to)
 }

@@ -6,12 +6,12 @@ ghost use Rattle.features.specs.Views.{dependency_view};
 ghost use Rattle.model.specs.Vertices.{dep_classes, same_class};
 ghost use Rattle.refutations.specs.inner.Listed.{classes_at};
 ghost use Rattle.numbering.specs.inner.KnownProblem.{problem};
-ghost use Rattle.numbering.specs.inner.TestedTerms.{is_class, states_view};
+ghost use Rattle.numbering.specs.inner.TestedTerms.{is_class, lone_view};
 ghost use Rattle.vertices.specs.inner.RefViews.{owner_ref_view};
 
 use crate::known_problem::KnownProblem;
 use crate::owners::dependency_at;
-use crate::space_tests::{Tests, class_tests, first_state, no_class};
+use crate::space_tests::{Lone, class_tests, no_class, state_of};
 use catalogue::catalogues_are_well_formed;
 use classes::Class;
 use features::DependencyParts;
@@ -75,8 +75,8 @@ pub fn class_number<'a>(
     ensures { IfOk result (λ o. o ≡ option_map suc (position (λ k. same_class k (class_view class))
         (dep_classes (problem known.now) (dependency_view dependency.now)))) }
 {
-    let tests = class_alone(alloc, known, dependency, class)?;
-    Ok(first_state(&tests))
+    let lone = class_alone(alloc, known, dependency, class)?;
+    Ok(state_of(&lone))
 }
 
 /// Of a dependency's states, that it leads to the class.
@@ -85,8 +85,8 @@ pub(crate) fn class_alone<'a>(
     known: &KnownProblem<'a>,
     dependency: &'a DependencyParts,
     class: Class,
-) -> Result<Tests, AllocError>
-    ensures { IfOk result (λ t. states_view t ≡ false
+) -> Result<Lone, AllocError>
+    ensures { IfOk result (λ l. lone_view l ≡ false
         ∷ map (is_class (class_view class)) (dep_classes (problem known.now) (dependency_view dependency.now))) }
 {
     catalogues_are_well_formed(known.manifest, known.catalogue);
@@ -102,8 +102,8 @@ pub(crate) fn absent_alone<'a>(
     alloc: Global,
     known: &KnownProblem<'a>,
     dependency: &'a DependencyParts,
-) -> Result<Tests, AllocError>
-    ensures { IfOk result (λ t. states_view t
+) -> Result<Lone, AllocError>
+    ensures { IfOk result (λ l. lone_view l
         ≡ true ∷ map (λ k. false) (dep_classes (problem known.now) (dependency_view dependency.now))) }
 {
     if let Some(classes) = known.matched.classes(dependency) {

@@ -12,7 +12,7 @@ ghost use Rattle.catalogue.specs.Views.{said_by};
 ghost use Rattle.model.specs.Axioms.{is_lower};
 ghost use Rattle.model.specs.Order.{precedence};
 ghost use Rattle.model.specs.Summary.{has_feature};
-ghost use Rattle.numbering.specs.inner.TestedTerms.{is_chosen, is_class, states_view};
+ghost use Rattle.numbering.specs.inner.TestedTerms.{is_chosen, is_class, lone_view, states_view};
 ghost use Rattle.lookups.specs.inner.Matching.{is_left, tests_of_range};
 ghost use Rattle.lookups.specs.inner.Ranges.{AreRising};
 ghost use Rattle.semver.specs.EvalViews.{matches_views};
@@ -25,14 +25,32 @@ use lookups::{are_releases, is_left, matched_range};
 use semver::{Version, VersionReq};
 use std::alloc::{AllocError, Global};
 
-/// Which states of a vertex a term has.
+/// Which states of a vertex a term has. Most terms name one state, or a range, and a vertex has as many such terms as
+/// states: none of these is to cost as much as all tests.
 #[derive(Drop)]
 pub(crate) enum Tests {
     /// For each state, in their order, whether the term has it.
     Each(Vec<bool>),
-    /// One of so many states, or none if it lies past them. Most terms name one, and a vertex has as many such terms as
-    /// states: none of these is to cost as much as all tests.
-    One { states: usize, state: usize },
+    /// One alone.
+    One(Lone),
+    /// Those in a range, or the others.
+    Range(Range),
+}
+
+/// One of so many states, or none if it lies past them.
+#[derive(Drop)]
+pub(crate) struct Lone {
+    pub(crate) states: usize,
+    pub(crate) state: usize,
+}
+
+/// So many states lie before a range, in it and after it; it is those inside that count, or the others.
+#[derive(Drop)]
+pub(crate) struct Range {
+    pub(crate) before: usize,
+    pub(crate) within: usize,
+    pub(crate) after: usize,
+    pub(crate) inside: bool,
 }
 
 #[tactic(auto, unfolding(crate::specs::inner::TestedTerms::is_chosen))]
@@ -54,14 +72,14 @@ pub(crate) fn left_tests(
     alloc: Global,
     requirement: &VersionReq,
     versions: &[Version],
-) -> Result<Vec<bool>, AllocError>
+) -> Result<Tests, AllocError>
     requires { AreRising versions.now }
-    ensures { IfOk result
-        (λ v. v.items ≡ true ∷ map (λ w. is_left (requirement_view requirement.now) (parts_of w)) versions.now) }
+    ensures { IfOk result (λ t. states_view t
+        ≡ true ∷ map (λ w. is_left (requirement_view requirement.now) (parts_of w)) versions.now) }
 {
     match range_among(requirement, versions) {
-        Some((from, to)) => range_tests(alloc, false, from, to, versions.len()),
-        None => each_left(alloc, requirement, versions),
+        Some((from, to)) => Ok(range_tests(false, from, to, versions.len())),
+        None => Ok(Tests::Each(each_left(alloc, requirement, versions)?)),
     }
 }
 
@@ -70,14 +88,14 @@ pub(crate) fn taken_tests(
     alloc: Global,
     requirement: &VersionReq,
     versions: &[Version],
-) -> Result<Vec<bool>, AllocError>
+) -> Result<Tests, AllocError>
     requires { AreRising versions.now }
-    ensures { IfOk result
-        (λ v. v.items ≡ false ∷ map (λ w. matches_views (requirement_view requirement.now) (parts_of w)) versions.now) }
+    ensures { IfOk result (λ t. states_view t
+        ≡ false ∷ map (λ w. matches_views (requirement_view requirement.now) (parts_of w)) versions.now) }
 {
     match range_among(requirement, versions) {
-        Some((from, to)) => range_tests(alloc, true, from, to, versions.len()),
-        None => each_taken(alloc, requirement, versions),
+        Some((from, to)) => Ok(range_tests(true, from, to, versions.len())),
+        None => Ok(Tests::Each(each_taken(alloc, requirement, versions)?)),
     }
 }
 
@@ -99,25 +117,20 @@ fn range_among(requirement: &VersionReq, versions: &[Version]) -> Option<(usize,
 
 /// Of a state before so many places, and these: whether each lies from one place on and up to another, or whether it
 /// doesn't.
-fn range_tests(
-    alloc: Global,
-    inside: bool,
-    from: usize,
-    to: usize,
-    count: usize,
-) -> Result<Vec<bool>, AllocError>
+fn range_tests(inside: bool, from: usize, to: usize, count: usize) -> Tests
     requires begins { from ≤ to }
     requires ends { to ≤ count }
     requires few { count < 2 ^ 63 }
-    ensures { IfOk result (λ v. v.items
+    ensures { states_view result
         ≡ not inside ∷ (replicate from (not inside)
-        ++ (replicate (to - from) inside ++ replicate (count - to) (not inside)))) }
+        ++ (replicate (to - from) inside ++ replicate (count - to) (not inside))) }
 {
-    let mut tests = Vec::with_capacity(alloc, count + 1)?;
-    tests.resize(from + 1, !inside)?;
-    tests.resize(to + 1, inside)?;
-    tests.resize(count + 1, !inside)?;
-    Ok(tests)
+    Tests::Range(Range {
+        before: from + 1,
+        within: to - from,
+        after: count - to,
+        inside,
+    })
 }
 
 fn each_left(
@@ -172,31 +185,31 @@ pub(crate) fn lacking_tests(
     Ok(tests)
 }
 
-/// The first state that a term has.
-pub(crate) fn first_state(tests: &Tests) -> Option<usize>
-    ensures { result ≡ position (λ b. b) (states_view tests.now) }
+/// The state that stands alone.
+pub(crate) fn state_of(lone: &Lone) -> Option<usize>
+    ensures { result ≡ position (λ b. b) (lone_view lone.now) }
 {
-    match tests {
-        Tests::Each(tests) => tests.iter().position(|test| *test),
-        Tests::One { states, state } if state < states => Some(*state),
-        Tests::One { .. } => None,
+    if lone.state < lone.states {
+        Some(lone.state)
+    } else {
+        None
     }
 }
 
 /// Absent alone.
-pub(crate) fn no_class(classes: &[Class]) -> Tests
-    ensures { states_view result ≡ true ∷ map (λ k. false) classes.now }
+pub(crate) fn no_class(classes: &[Class]) -> Lone
+    ensures { lone_view result ≡ true ∷ map (λ k. false) classes.now }
 {
-    Tests::One {
+    Lone {
         states: classes.len() + 1,
         state: 0,
     }
 }
 
 /// One class alone.
-pub(crate) fn class_tests(class: Class, classes: &[Class]) -> Tests
+pub(crate) fn class_tests(class: Class, classes: &[Class]) -> Lone
     requires { AllPairs (λ j k. is_lower (class_view j) (class_view k) ≡ true) classes.now }
-    ensures { states_view result ≡ false ∷ map (λ k. is_class (class_view class) (class_view k)) classes.now }
+    ensures { lone_view result ≡ false ∷ map (λ k. is_class (class_view class) (class_view k)) classes.now }
 {
     let place = lower_classes(class, classes);
     alone(classes.len(), place, is_class_at(class, classes, place))
@@ -222,9 +235,9 @@ fn is_class_at(class: Class, classes: &[Class], place: usize) -> bool
 }
 
 /// One version alone.
-pub(crate) fn chosen_tests(chosen: &Version, versions: &[Version]) -> Tests
+pub(crate) fn chosen_tests(chosen: &Version, versions: &[Version]) -> Lone
     requires { AreRising versions.now }
-    ensures { states_view result ≡ false ∷ map (λ w. is_chosen (parts_of chosen.now) (parts_of w)) versions.now }
+    ensures { lone_view result ≡ false ∷ map (λ w. is_chosen (parts_of chosen.now) (parts_of w)) versions.now }
 {
     let place = older_versions(chosen, versions);
     alone(versions.len(), place, is_chosen_at(chosen, versions, place))
@@ -256,21 +269,12 @@ fn is_chosen_at(chosen: &Version, versions: &[Version], place: usize) -> bool
 }
 
 /// The state at a place after absent alone, if what is sought stands there, else no state.
-fn alone(places: usize, place: usize, is_there: bool) -> Tests
+fn alone(places: usize, place: usize, is_there: bool) -> Lone
     requires many { places < 2 ^ 63 }
     requires few { place ≤ places }
-    ensures { states_view result ≡ (if is_there then only (places + 1) (place + 1) else none (places + 1)) }
+    ensures { lone_view result ≡ (if is_there then only (places + 1) (place + 1) else none (places + 1)) }
 {
     let states = places + 1;
-    if is_there {
-        Tests::One {
-            states,
-            state: place + 1,
-        }
-    } else {
-        Tests::One {
-            states,
-            state: states,
-        }
-    }
+    let state = if is_there { place + 1 } else { states };
+    Lone { states, state }
 }

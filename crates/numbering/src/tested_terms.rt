@@ -19,7 +19,7 @@ use crate::known_problem::KnownProblem;
 use crate::owners::dependency_at;
 use crate::possible_classes::{absent_alone, class_alone};
 use crate::space_tests::{
-    Tests, chosen_tests, class_tests, lacking_tests, left_tests, no_class, taken_tests,
+    Lone, Tests, chosen_tests, class_tests, lacking_tests, left_tests, no_class, taken_tests,
 };
 use catalogue::catalogues_are_well_formed;
 use classes::Class;
@@ -76,10 +76,11 @@ pub(crate) fn terms_tested<'a>(
 fn two_states(vertex: VertexRef<'_>, present: bool) -> TestedTerm<'_>
     ensures { tested_view result ≡ (vertex_ref_view vertex.entry, not present ∷ present ∷ []) }
 {
-    let tests = Tests::One {
+    let lone = Lone {
         states: 2,
         state: present as usize,
     };
+    let tests = Tests::One(lone);
     TestedTerm { vertex, tests }
 }
 
@@ -123,7 +124,7 @@ fn chosen<'a>(
 {
     let class = Class::of(version);
     let versions = class_versions(known.catalogue, name, class);
-    package_term(name, class, chosen_tests(version, versions))
+    package_term(name, class, Tests::One(chosen_tests(version, versions)))
 }
 
 /// The feature of the version is on, or off.
@@ -169,10 +170,10 @@ fn absent<'a>(
 {
     match dependency_at(known, &owner, number) {
         Some(dependency) => {
-            let tests = absent_alone(alloc, known, dependency)?;
-            Ok(dependency_term(owner, number, tests))
+            let lone = absent_alone(alloc, known, dependency)?;
+            Ok(dependency_term(owner, number, Tests::One(lone)))
         }
-        None => Ok(dependency_term(owner, number, no_class(&[]))),
+        None => Ok(dependency_term(owner, number, Tests::One(no_class(&[])))),
     }
 }
 
@@ -189,8 +190,8 @@ fn leads_to<'a>(
     ensures { IfOk result (λ p. tested_view p ≡ tested (problem known.now)
         (at (model.dep (owner_ref_view owner.entry) number) (model.in_class (class_view class) ∷ []))) }
 {
-    let tests = class_alone(alloc, known, dependency, class)?;
-    Ok(dependency_term(owner, number, tests))
+    let lone = class_alone(alloc, known, dependency, class)?;
+    Ok(dependency_term(owner, number, Tests::One(lone)))
 }
 
 /// The dependency leads to the class.
@@ -206,7 +207,7 @@ fn leads<'a>(
 {
     match dependency_at(known, &owner, number) {
         Some(dependency) => leads_to(alloc, known, owner, number, dependency, class),
-        None => Ok(dependency_term(owner, number, class_tests(class, &[]))),
+        None => Ok(dependency_term(owner, number, Tests::One(class_tests(class, &[])))),
     }
 }
 
@@ -313,7 +314,7 @@ fn left<'a>(
 {
     let versions = class_versions(known.catalogue, &dependency.real_name, class);
     let tests = left_tests(alloc, &dependency.requirement, versions)?;
-    Ok(package_term(&dependency.real_name, class, Tests::Each(tests)))
+    Ok(package_term(&dependency.real_name, class, tests))
 }
 
 /// The package has a version of the class that is matched.
@@ -331,7 +332,7 @@ fn taken<'a>(
 {
     let versions = class_versions(known.catalogue, &dependency.real_name, class);
     let tests = taken_tests(alloc, &dependency.requirement, versions)?;
-    Ok(package_term(&dependency.real_name, class, Tests::Each(tests)))
+    Ok(package_term(&dependency.real_name, class, tests))
 }
 
 /// The package is absent or has a version of the class that lacks the feature.

@@ -1,6 +1,6 @@
 -- Terms of an instance as vertices and tests of their spaces: which of the vertex's states, in their order, the term
 -- has.
-use Rattle.std.specs.Prelude.{◌≡◌, ◌≤◌, List, [], ◌∷◌, Bool, map, length, Some, slice_get}
+use Rattle.std.specs.Prelude.{◌≡◌, ◌≤◌, List, [], ◌∷◌, ◌++◌, Bool, not, map, length, replicate, Some, slice_get}
 use Rattle.terms.specs.Terms.{TermView}
 use Rattle.semver.specs.Parse.{Parts}
 use Rattle.model.specs.Content.{Problem, same_version}
@@ -10,8 +10,10 @@ use Rattle.model.specs.Axioms.{Term, IsVertex}
 use Rattle.version_sets.specs.Sets.{Members, only}
 use Rattle.numbering.specs.Numberings.{Numbering, members_at}
 use Rattle.vertices.specs.inner.RefViews.{vertex_ref_view}
+use Rattle.numbering.specs.declared.space_tests.Lone.{Lone}
+use Rattle.numbering.specs.declared.space_tests.Range as code_range
 use Rattle.numbering.specs.declared.space_tests.Tests.{Tests}
-use Rattle.numbering.specs.declared.space_tests.Tests.TheVariants.{Each, One}
+use Rattle.numbering.specs.declared.space_tests.Tests.TheVariants.{Each, One, Range}
 use Rattle.numbering.specs.declared.tested_terms.TestedTerm as code
 
 abbrev pub TestedTerm : Type 0
@@ -27,10 +29,20 @@ all_tested q ts = map (tested q) ts
 abbrev pub vertices_of : List TestedTerm → List Vertex
 vertices_of ps = map (λ p. p.0) ps
 
--- which states pass: each where it is tested, or one of so many
+-- one of so many states
+abbrev pub lone_view : Lone → Members
+lone_view l = only l.states l.state
+
+-- so many states before those of a range, these, and so many after them: which of them count
+abbrev pub range_view : code_range.Range → Members
+range_view r =
+    replicate r.before (not r.inside) ++ (replicate r.within r.inside ++ replicate r.after (not r.inside))
+
+-- which states pass: each where it is tested, one of so many, or those of a range
 abbrev pub states_view : Tests → Members
 states_view (Each ts) = ts.items
-states_view (One n i) = only n i
+states_view (One l) = lone_view l
+states_view (Range r) = range_view r
 
 abbrev pub tested_view : code.TestedTerm → TestedTerm
 tested_view p = (vertex_ref_view p.vertex, states_view p.tests)

@@ -9,6 +9,6 @@ use Rattle.numbering.proofs.possible_classes.class_number.Goals as goal
 
 pub returns : goal.returns
 returns c =
-    c.first_state.ensures ∙ ap (λ (ts : List Bool). position (λ b. b) ts) c.in_ok-tests.ensures
+    c.state_of.ensures ∙ ap (λ (ts : List Bool). position (λ b. b) ts) c.in_ok-lone.ensures
     ∙ class_after_absent (class_view c.args.class)
     (dep_classes (problem c.args.known.now) (dependency_view c.args.dependency.now))

@@ -12,6 +12,6 @@ pub returns : goal.returns
 returns c =
     let o = owner_ref_view c.args.owner in
     let k = class_view c.args.class in
-    c.dependency_term.ensures ∙ ap (λ m. (dep o c.args.number, m)) (c.in_ok-tests.ensures
+    c.dependency_term.ensures ∙ ap (λ m. (dep o c.args.number, m)) (c.in_ok-lone.ensures
     ∙ ap (λ ks. false ∷ map (is_class k) ks) (ap (classes_if (problem c.args.known.now)) (sym c.requires))
     ∙ class_is (problem c.args.known.now) o c.args.number k)
