@@ -8,9 +8,9 @@ use Rattle.version_sets.specs.Sets.{Members, inside, meets}
 use Rattle.incompatibilities.specs.Incompatibilities.{HoldsAt, Terms, states_at}
 use Rattle.incompatibilities.specs.Stores.{EntryView, ids_at, ids_from, terms_of, touches}
 use Rattle.incompatibilities.specs.declared.origin.Origin.TheVariants.{Axiom}
-use Rattle.propagation.specs.Trails.{TrailView, end_sets, set_of}
+use Rattle.propagation.specs.Trails.{FrontView, TrailView, end_sets, front_of, set_of}
 use Rattle.propagation.specs.Satisfaction.{IsQuiet, RuledOut}
-use Rattle.propagation.specs.Promises.{ArePassed, IsFront}
+use Rattle.propagation.specs.Promises.{AreFronts, IsFront}
 use Rattle.propagation.proofs.SetLemmas.{inside_same, meets_of, meets_through}
 
 -- what is ruled out is quiet
@@ -49,11 +49,13 @@ out_down sets after f part out = record {
   ];
 }
 
-pub front_down : (es : List EntryView) (sets after : List Members) (v n : ℕ) → AreInside after sets
-    → IsFront es sets v n → IsFront es after v n
-front_down es sets after v n part front = record {
+pub front_down : (es : List EntryView) (sets after : List Members) (v : ℕ) (f : FrontView) → AreInside after sets
+    → IsFront es sets v f → IsFront es after v f
+front_down es sets after v f part front = record {
   few = front.few;
-  out = λ r lt. out_down sets after (terms_of es (get_or (ids_at v es) r 0)) part (front.out r lt);
+  short = front.short;
+  below = front.below;
+  out = λ r lt none. out_down sets after (terms_of es (get_or (ids_at v es) r 0)) part (front.out r lt none);
 }
 
 -- the index: each number is of an entry
@@ -86,14 +88,16 @@ ids_more n v (e ∷ es) more =
     (ids_from (n + suc (length es)) v more)
     (ids_more (suc n) v es more ∙ ap (λ k. ids_from (suc n) v es ++ ids_from k v more) next)
 
-pub front_grown : (es more : List EntryView) (sets : List Members) (v n : ℕ) → IsFront es sets v n
-    → IsFront (es ++ more) sets v n
-front_grown es more sets v n front = record {
+pub front_grown : (es more : List EntryView) (sets : List Members) (v : ℕ) (f : FrontView) → IsFront es sets v f
+    → IsFront (es ++ more) sets v f
+front_grown es more sets v f front = record {
   few = (
       let few = front.few in
       omega (arith, few, ap length longer, length-append (ids_at v es) (ids_from (0 + length es) v more))
       );
-  out = λ r lt.
+  short = front.short;
+  below = front.below;
+  out = λ r lt none.
       let few = front.few in
       let low : r < length (ids_at v es) = omega (arith, lt, few) in
       let id = get_or (ids_at v es) r 0 in
@@ -102,14 +106,14 @@ front_grown es more sets v n front = record {
       subst (λ i. RuledOut sets (terms_of (es ++ more) i)) (sym same)
       (subst (λ (e : EntryView). RuledOut sets (states_at e.terms))
       (sym (get_or_append_left es more (record { terms = []; origin = Axiom 0 }) id (ids_below v es r low)))
-      (front.out r lt));
+      (front.out r lt none));
 }
   where
     longer : ids_at v (es ++ more) ≡ ids_at v es ++ ids_from (0 + length es) v more
     longer = ids_more 0 v es more
 
-pub passed_grown : (es more : List EntryView) (t : TrailView) → ArePassed es t → ArePassed (es ++ more) t
-passed_grown es more t p = record {
+pub fronts_grown : (es more : List EntryView) (t : TrailView) → AreFronts es t → AreFronts (es ++ more) t
+fronts_grown es more t p = record {
   long = p.long;
-  front = λ v. front_grown es more (end_sets t 0) v (get_or t.passed v 0) (p.front v);
+  front = λ v. front_grown es more (end_sets t 0) v (front_of t.fronts v) (p.front v);
 }

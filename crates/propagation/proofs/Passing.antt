@@ -1,13 +1,14 @@
 -- What is passed over stays ruled out: the sets at the end of level 0 only shrink.
-use Rattle.std.proofs.Common.{◌≡◌, ℕ, ◌<◌, ◌≤◌, List, [], ◌∷◌, length, get_or, set, true, Option}
+use Rattle.std.proofs.Common.{◌≡◌, ℕ, ◌<◌, ◌≤◌, List, [], ◌∷◌, length, set, true, Option}
 use Rattle.std.proofs.Common.{sym, ap, ◌∙◌, subst, arith, inl, inr}
 use Rattle.std.proofs.lemmas.Bool.{cases_eq}
 use Rattle.std.proofs.lemmas.List.{get_or-set_same, get_or-set_other, length-set}
 use Rattle.version_sets.specs.Sets.{Members, inside}
 use Rattle.incompatibilities.specs.Stores.{EntryView}
-use Rattle.propagation.specs.Trails.{Above, StepView, TrailView, end_sets, past, set_of, sets_at, undo}
-use Rattle.propagation.specs.inner.Parts.{IsPut, put_step, with_passed}
-use Rattle.propagation.specs.Promises.{ArePassed, IsFront, IsLonger, IsSound, IsTaken, IsTrail, NextLevel, Propagated}
+use Rattle.propagation.specs.Trails.{Above, FrontView, StepView, TrailView, end_sets, front_of, none_seen, past}
+use Rattle.propagation.specs.Trails.{set_of, sets_at, undo}
+use Rattle.propagation.specs.inner.Parts.{IsPut, IsRenewed, put_step, with_fronts}
+use Rattle.propagation.specs.Promises.{AreFronts, IsFront, IsLonger, IsSound, IsTaken, IsTrail, NextLevel, Propagated}
 use Rattle.propagation.specs.declared.propagating.Progress.{Progress}
 use Rattle.propagation.proofs.Back.{length-put_back, put_back-append, put_longer, sets_now, sets_same}
 use Rattle.propagation.proofs.Fronts.{AreInside, front_down}
@@ -33,19 +34,19 @@ ends_inside old new added longer sound u =
     (sets_same old new added (kept 0 old.steps) longer (kept_le 0 old.steps) ∙ sym (end_is_place old 0))
     (shrinks new sound u (kept 0 old.steps) (kept 0 new.steps) more (kept_le 0 new.steps)))
 
--- as many entries are passed over as before
-passed_as : (es : List EntryView) (old new : TrailView) → new.passed ≡ old.passed → length new.sets ≡ length old.sets
-    → AreInside (end_sets new 0) (end_sets old 0) → ArePassed es old → ArePassed es new
-passed_as es old new same long part p = record {
+-- the same fronts of rows as before
+fronts_as : (es : List EntryView) (old new : TrailView) → new.fronts ≡ old.fronts → length new.sets ≡ length old.sets
+    → AreInside (end_sets new 0) (end_sets old 0) → AreFronts es old → AreFronts es new
+fronts_as es old new same long part p = record {
   long = ap length same ∙ p.long ∙ sym long;
-  front = λ v. subst (λ ns. IsFront es (end_sets new 0) v (get_or ns v 0)) (sym same)
-      (front_down es (end_sets old 0) (end_sets new 0) v (get_or old.passed v 0) part (p.front v));
+  front = λ v. subst (λ fs. IsFront es (end_sets new 0) v (front_of fs v)) (sym same)
+      (front_down es (end_sets old 0) (end_sets new 0) v (front_of old.fronts v) part (p.front v));
 }
 
 -- assignments more
-passed_longer : (es : List EntryView) (old new : TrailView) (added : List StepView) → IsLonger old new added
-    → IsSound new → ArePassed es old → ArePassed es new
-passed_longer es old new added longer sound p = passed_as es old new longer.passed
+fronts_longer : (es : List EntryView) (old new : TrailView) (added : List StepView) → IsLonger old new added
+    → IsSound new → AreFronts es old → AreFronts es new
+fronts_longer es old new added longer sound p = fronts_as es old new longer.fronts
     (sym (length-put_back (λ s. s.before) added new.sets) ∙ ap length longer.sets)
     (ends_inside old new added longer sound) p
 
@@ -54,13 +55,13 @@ above_first : (l : ℕ) (ss : List StepView) → Above l ss → Above 0 ss
 above_first l [] a = tt
 above_first l (s ∷ ss) a = ((let lt = a.0 in omega (arith, lt)), above_first l ss a.1)
 
-pub passed_shorter : (es : List EntryView) (new old : TrailView) (gone : List StepView) (l : ℕ)
-    → IsLonger new old gone → Above l gone → ArePassed es old → ArePassed es new
-passed_shorter es new old gone l longer above p = record {
-  long = ap length (sym longer.passed) ∙ p.long ∙ sym (length-put_back (λ s. s.before) gone old.sets)
+pub fronts_shorter : (es : List EntryView) (new old : TrailView) (gone : List StepView) (l : ℕ)
+    → IsLonger new old gone → Above l gone → AreFronts es old → AreFronts es new
+fronts_shorter es new old gone l longer above p = record {
+  long = ap length (sym longer.fronts) ∙ p.long ∙ sym (length-put_back (λ s. s.before) gone old.sets)
       ∙ ap length longer.sets;
-  front = λ v. subst (λ ns. IsFront es (end_sets new 0) v (get_or ns v 0)) longer.passed
-      (subst (λ (ss : List Members). IsFront es ss v (get_or old.passed v 0)) ends (p.front v));
+  front = λ v. subst (λ fs. IsFront es (end_sets new 0) v (front_of fs v)) longer.fronts
+      (subst (λ (ss : List Members). IsFront es ss v (front_of old.fronts v)) ends (p.front v));
 }
   where
     ends : end_sets old 0 ≡ end_sets new 0
@@ -79,7 +80,7 @@ put_trail es old new vertex states forced_by level trail put taken next here = r
   lies = λ id lt u s e. trail.lies id lt u s e ∙ sym (put_space old new (put_step old vertex forced_by level) taken u);
   forced = put_forced es old new (put_step old vertex forced_by level) longer trail.forced here;
   settled = put_settled es old new vertex states forced_by level put taken trail.settled;
-  passed = passed_longer es old new (put_step old vertex forced_by level ∷ []) longer sound trail.passed;
+  fronts = fronts_longer es old new (put_step old vertex forced_by level ∷ []) longer sound trail.fronts;
 }
   where
     sound : IsSound new
@@ -88,39 +89,40 @@ put_trail es old new vertex states forced_by level trail put taken next here = r
     longer : IsLonger old new (put_step old vertex forced_by level ∷ [])
     longer = put_longer old new vertex states forced_by level put
 
--- more entries are passed over, at level 0
-counts_sound : (t : TrailView) (ns : List ℕ) → IsSound t → IsSound (with_passed t ns)
-counts_sound t ns s =
+-- other fronts of rows, at level 0
+fronts_sound : (t : TrailView) (fs : List FrontView) → IsSound t → IsSound (with_fronts t fs)
+fronts_sound t fs s =
     record { starts = s.starts; levels = s.levels; places = s.places; long = s.long; latest = s.latest }
 
 ends_now : (t : TrailView) → IsSound t → t.level ≡ 0 → end_sets t 0 ≡ t.sets
 ends_now t sound low = ap (λ ss. undo ss t.sets) (past_top 0 0 t.level t.steps sound.levels (omega (arith, low)))
 
-module _ (es : List EntryView) (t : TrailView) (v n : ℕ) (trail : IsTrail es t) (low : t.level ≡ 0)
-    (within : v < length t.sets) (front : IsFront es t.sets v n) where
-  front_at : (u : ℕ) → IsFront es (end_sets t 0) u (get_or (set t.passed v n) u 0)
+module _ (es : List EntryView) (t : TrailView) (v : ℕ) (f : FrontView) (trail : IsTrail es t) (low : t.level ≡ 0)
+    (within : v < length t.sets) (front : IsFront es t.sets v f) where
+  front_at : (u : ℕ) → IsFront es (end_sets t 0) u (front_of (set t.fronts v f) u)
   front_at u = elim (cases_eq u v) [
-    | inl e ↦ subst (λ w. IsFront es (end_sets t 0) w (get_or (set t.passed v n) w 0)) (sym e)
-        (subst (IsFront es (end_sets t 0) v) (sym (get_or-set_same t.passed v n 0 room))
-        (subst (λ (ss : List Members). IsFront es ss v n) (sym (ends_now t trail.sound low)) front))
-    | inr ne ↦ subst (IsFront es (end_sets t 0) u) (sym (get_or-set_other t.passed v u n 0 ne)) (trail.passed.front u)
+    | inl e ↦ subst (λ w. IsFront es (end_sets t 0) w (front_of (set t.fronts v f) w)) (sym e)
+        (subst (IsFront es (end_sets t 0) v) (sym (get_or-set_same t.fronts v f none_seen room))
+        (subst (λ (ss : List Members). IsFront es ss v f) (sym (ends_now t trail.sound low)) front))
+    | inr ne ↦ subst (IsFront es (end_sets t 0) u) (sym (get_or-set_other t.fronts v u f none_seen ne))
+        (trail.fronts.front u)
   ]
     where
-      room : v < length t.passed
-      room = let long = trail.passed.long in omega (arith, within, long)
+      room : v < length t.fronts
+      room = let long = trail.fronts.long in omega (arith, within, long)
 
-  pub passed_at : IsTrail es (with_passed t (set t.passed v n))
-  passed_at = record {
-    sound = counts_sound t (set t.passed v n) trail.sound;
+  pub renewed_at : IsTrail es (with_fronts t (set t.fronts v f))
+  renewed_at = record {
+    sound = fronts_sound t (set t.fronts v f) trail.sound;
     lies = trail.lies;
     forced = trail.forced;
     settled = record { now = trail.settled.now; before = trail.settled.before };
-    passed = record { long = length-set t.passed v n ∙ trail.passed.long; front = front_at };
+    fronts = record { long = length-set t.fronts v f ∙ trail.fronts.long; front = front_at };
   }
 
-pub propagated_passing : (es : List EntryView) (old mid new : TrailView) (progress : Progress) (added : List StepView)
-    → new ≡ with_passed mid new.passed → Propagated es old mid progress added → Propagated es old new progress added
-propagated_passing es old mid new progress added same p =
+pub propagated_renewed : (es : List EntryView) (old mid new : TrailView) (progress : Progress) (added : List StepView)
+    → IsRenewed mid new → Propagated es old mid progress added → Propagated es old new progress added
+propagated_renewed es old mid new progress added same p =
     subst (λ (t : TrailView). Propagated es old t progress added) (sym same) (record {
       steps = p.steps;
       level = p.level;
@@ -134,7 +136,8 @@ propagated_passing es old mid new progress added same p =
       follows = p.follows;
     })
 
--- what is passed over at a vertex, so far
-pub front_now : (es : List EntryView) (t : TrailView) (v : ℕ) → IsTrail es t → IsFront es t.sets v (get_or t.passed v 0)
-front_now es t v trail = front_down es (end_sets t 0) t.sets v (get_or t.passed v 0) (now_inside t trail.sound)
-    (trail.passed.front v)
+-- what is kept of a vertex, by the sets now
+pub front_now : (es : List EntryView) (t : TrailView) (v : ℕ) → IsTrail es t
+    → IsFront es t.sets v (front_of t.fronts v)
+front_now es t v trail = front_down es (end_sets t 0) t.sets v (front_of t.fronts v) (now_inside t trail.sound)
+    (trail.fronts.front v)

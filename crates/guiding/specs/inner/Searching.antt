@@ -112,7 +112,7 @@ up_to t k = record {
   assigned = t.assigned;
   settled = t.settled;
   propagated = t.propagated;
-  passed = t.passed;
+  fronts = t.fronts;
 }
 
 abbrev pub EachFalls : ℕ → TrailView → Type 0

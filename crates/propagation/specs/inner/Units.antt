@@ -8,7 +8,7 @@ use Rattle.terms.specs.declared.term.Relation.{Relation}
 use Rattle.terms.specs.declared.term.Relation.TheVariants.{Satisfied, Contradicted, Open}
 use Rattle.incompatibilities.specs.Incompatibilities.{IsIncompatibility, LiesIn, Terms, states_at}
 use Rattle.incompatibilities.specs.Stores.{EntryView, terms_of}
-use Rattle.propagation.specs.Trails.{StepView, TrailView, set_of, space_of, step_at, total}
+use Rattle.propagation.specs.Trails.{FrontView, StepView, TrailView, set_of, space_of, step_at, total}
 use Rattle.propagation.specs.Satisfaction.{IsOneOpen, IsQuiet, Sat, is_within}
 use Rattle.propagation.specs.inner.Parts.{IsPut}
 use Rattle.propagation.specs.Promises.{NoneDecided, Follows, IsLonger, IsTrail, Rests, IsProgress, counted}
@@ -134,3 +134,15 @@ AgainEnds es old new id (Some forced) =
 -- an entry at the vertex of the first place that was not propagated is looked at again, or passed over
 abbrev pub IsLookAgain : List EntryView → TrailView → TrailView → ℕ → Option Bool → List StepView → Type 0
 IsLookAgain es old new id r added = LooksWith es old new added (AgainEnds es old new id r)
+
+-- how many entries of a row of so many are left: those that are kept, and those that came since
+abbrev pub entries_left : FrontView → ℕ → ℕ
+entries_left f entries = length f.alive + (entries - f.seen)
+
+-- the place of one of them
+abbrev pub place_left : FrontView → ℕ → ℕ
+place_left f turn = slice_index_or f.alive turn (f.seen + (turn - length f.alive))
+
+-- from a turn on, none of these is the place j
+abbrev pub NotLeft : FrontView → ℕ → ℕ → ℕ → Type 0
+NotLeft f entries turn j = (i : ℕ) → turn ≤ i → i < entries_left f entries → place_left f i ≢ j

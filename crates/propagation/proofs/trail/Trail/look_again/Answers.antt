@@ -2,22 +2,8 @@ use Rattle.std.proofs.Common.{rules, ◌≡◌, ◌<◌, ◌∙◌, true, false,
 use Rattle.incompatibilities.specs.Stores.{entries_view, terms_of}
 use Rattle.propagation.specs.Satisfaction.{is_within}
 use Rattle.propagation.specs.Trails.{set_of, trail_view}
-use Rattle.propagation.proofs.Looking.{looked_again, passed_out, passed_over, still_by, vertex_within}
+use Rattle.propagation.proofs.Looking.{looked_again, passed_over, still_by, vertex_within}
 use Rattle.propagation.proofs.trail.Trail.look_again.Goals as goal
-
-pub is_out-requires-clause-vertex : goal.is_out-requires-clause-vertex
-is_out-requires-clause-vertex g c =
-    let t = trail_view g.S.States.tests c.args.self.now in
-    subst (λ v. v < length t.sets) (sym c.requires.vertex)
-    (vertex_within t c.requires.trail.sound t.propagated c.requires.waits)
-
-pub returns-then-is_out-clause-looked : goal.returns-then-is_out-clause-looked
-returns-then-is_out-clause-looked g c =
-    let tests = g.S.States.tests in (
-      [],
-      passed_out (entries_view tests c.args.store.now) (trail_view tests c.args.self.now) c.args.id c.requires.trail
-          c.if-is_out.ensures,
-    )
 
 pub is_within-requires-clause-vertex : goal.is_within-requires-clause-vertex
 is_within-requires-clause-vertex g c =

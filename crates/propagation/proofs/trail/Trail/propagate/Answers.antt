@@ -3,7 +3,7 @@ use Rattle.std.proofs.lemmas.List.{length-map}
 use Rattle.incompatibilities.specs.Stores.{entries_view}
 use Rattle.propagation.specs.Promises.{IsTrail, SameSpaces}
 use Rattle.propagation.specs.Trails.{trail_view}
-use Rattle.propagation.proofs.Passing.{propagated_passing}
+use Rattle.propagation.proofs.Passing.{propagated_renewed}
 use Rattle.propagation.proofs.Soundness.{longer_spaces, same_again}
 use Rattle.propagation.proofs.Spreading.{restored}
 use Rattle.propagation.proofs.trail.Trail.propagate.Goals as goal
@@ -31,7 +31,7 @@ returns-in-Ok-clause-spaces g c =
     let up = c.spread.ensures.spread in
     let spaces : SameSpaces (view c.args.self.now) (view c.spread.new.self) =
     longer_spaces (view c.args.self.now) (view c.spread.new.self) up.0 up.1.longer up.1.trail.sound in
-    subst (SameSpaces (view c.args.self.now)) (sym c.pass_over.ensures.passing)
+    subst (SameSpaces (view c.args.self.now)) (sym c.renew_fronts.ensures.renewed)
     (record { vertices = spaces.vertices; spaces = spaces.spaces })
 
 pub returns-in-Ok-clause-propagated : goal.returns-in-Ok-clause-propagated
@@ -40,6 +40,6 @@ returns-in-Ok-clause-propagated g c =
     let es = entries_view g.S.States.tests c.args.store.now in
     let was = c.in-Ok.ensures.propagated in (
       was.0,
-      propagated_passing es (view c.args.self.now) (view c.spread.new.self) (view c.pass_over.new.self)
-          c.in-Ok.progress was.0 c.pass_over.ensures.passing was.1,
+      propagated_renewed es (view c.args.self.now) (view c.spread.new.self) (view c.renew_fronts.new.self)
+          c.in-Ok.progress was.0 c.renew_fronts.ensures.renewed was.1,
     )
