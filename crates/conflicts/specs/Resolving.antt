@@ -100,9 +100,8 @@ LieSomewhere es ts = (space : ℕ → ℕ) × ((id : ℕ) → id < length es →
     × LiesIn space (states_at ts)
 
 -- an entry to combine an incompatibility with at a vertex where it has a term
-abbrev pub IsUnitFor : List EntryView → List TermView → ℕ → Option ℕ → Type 0
-IsUnitFor es ts v None = Unit {0}
-IsUnitFor es ts v (Some unit) = (unit < length es) × (touches v ts ≡ true)
+abbrev pub IsUnitFor : List EntryView → List TermView → ℕ → ℕ → Type 0
+IsUnitFor es ts v unit = (unit < length es) × (touches v ts ≡ true)
 
 -- the entry that says what came out of a chain: the one that it begins with, if it has no combination, else a new one
 pub record IsKept (es : List EntryView) (ts : List TermView) (chain : ChainView) (new : List EntryView)

@@ -295,7 +295,7 @@ fn next_lesson<S: States + Drop>(
     ensures room { HasRoom first (trail_view S.tests trail.now) (entries_view S.tests store.new) }
 {
     let here = kept_if_short(alloc, trail, store, first, lesson)?;
-    let stand_in = stand_in_for(alloc, trail, store, first, link.with)?;
+    let stand_in = stand_in_for(alloc, trail, store, first, link.with, None)?;
     with_stand_in(alloc, trail, store, here, link, stand_in)
 }
 
@@ -320,7 +320,7 @@ pub(crate) fn lesson_of<S: States + Drop>(
     ensures trail { IsTrail (entries_view S.tests store.new) (trail_view S.tests trail.now) }
     ensures room { HasRoom first (trail_view S.tests trail.now) (entries_view S.tests store.new) }
 {
-    let stand_in = stand_in_for(alloc, trail, store, first, id)?;
+    let stand_in = stand_in_for(alloc, trail, store, first, id, None)?;
     let mut lesson = start_of(alloc, trail, store, id, stand_in)?;
     'steps: while let Some(link) = next_link(&lesson.found) {
         let next = next_lesson(alloc, trail, store, first, lesson, link)?;

@@ -1,12 +1,19 @@
 //! Taking what holds at level 0 out of entries before they are combined.
+//!
+//! A unit of a vertex is an entry with one term, there: it says that the term's states are gone. A vertex has a stack
+//! of units, as in a binary counter: a new one takes up those on top while they have no more states than it, so each
+//! has more states than the one above it; and what is strengthened takes up all of them, from the top. If each new unit
+//! took up all that is gone, n versions that fall away one after the other would make units of 1, 2, .. n states, n * n
+//! in a refusal. It has n log n by the stack: for 2,000 versions that each need what nobody has, 1 MB and not 22.
+//! A vertex with few states has one unit even so, and its states are taken up by one combination.
 
 ghost use Rattle.conflicts.specs.Resolving.{HasRoom, IsGained, IsHeld, IsLone, IsUnitFor, LieSomewhere};
 ghost use Rattle.incompatibilities.specs.Incompatibilities.{LiesIn, states_at};
-ghost use Rattle.incompatibilities.specs.Stores.{EntryView, entries_view};
+ghost use Rattle.incompatibilities.specs.Stores.{EntryView, entries_view, entry, terms_of};
 ghost use Rattle.propagation.specs.Promises.{IsSound, IsTrail};
 ghost use Rattle.propagation.specs.Trails.{space_of, trail_view};
 ghost use Rattle.std.specs.Bool.{OnTrue};
-ghost use Rattle.std.specs.Prelude.{◌≡◌, ◌+◌, ◌-◌, ◌<◌, ◌≤◌, IfOk, List, Some, length, option_map};
+ghost use Rattle.std.specs.Prelude.{◌≡◌, ◌+◌, ◌-◌, ◌<◌, ◌≤◌, IfOk, IfSome, List, Some, length, option_map};
 ghost use Rattle.terms.specs.Terms.{terms_view};
 ghost use Rattle.version_sets.specs.Sets.{Members};
 
@@ -16,6 +23,9 @@ use incompatibilities::{Chain, Id, Incompatibility, Link, Store, combine};
 use propagation::Trail;
 use std::alloc::{AllocError, Global};
 use version_sets::States;
+
+/// A unit of so few states is taken up by any that is new.
+const SMALL: u32 = 64;
 
 /// An incompatibility, and the chain that it came out of.
 #[derive(Drop)]
@@ -35,50 +45,45 @@ fn states_on<S: States + Drop>(incompatibility: &Incompatibility<S>, vertex: usi
     }
 }
 
-/// Whether an incompatibility's term at a vertex has states that a set lacks.
-fn has_more<S: States + Drop>(states: &S, unit: &Incompatibility<S>, vertex: usize) -> bool
-    requires { (x : Members) → states_at (terms_view S.tests unit.now) vertex ≡ Some x
-        → length x ≡ length (S.tests states.now) }
+/// The states of a vertex that an entry says are gone, if it is there and has a term at the vertex.
+fn gone_by<S: States + Drop>(store: &Store<S>, unit: Id, vertex: usize) -> Option<&S>
+    ensures { IfSome result (λ s. (unit < length (entries_view S.tests store.now))
+        × (terms_of (entries_view S.tests store.now) unit vertex ≡ Some (S.tests s.now))) }
 {
-    match states_on(unit, vertex) {
-        Some(gone) => !gone.subset(states),
+    if unit.index() >= store.len() {
+        return None;
+    }
+    states_on(store.get(unit), vertex)
+}
+
+/// Whether an entry says of a vertex that states are gone which an incompatibility's term there lacks.
+fn is_unit_for<S: States + Drop>(
+    store: &Store<S>,
+    incompatibility: &Incompatibility<S>,
+    vertex: usize,
+    unit: Id,
+) -> bool
+    requires { LieSomewhere (entries_view S.tests store.now) (terms_view S.tests incompatibility.now) }
+    ensures { OnTrue result
+        (IsUnitFor (entries_view S.tests store.now) (terms_view S.tests incompatibility.now) vertex unit) }
+{
+    let gone = match gone_by(store, unit, vertex) {
+        Some(gone) => gone,
+        None => return false,
+    };
+    match states_on(incompatibility, vertex) {
+        Some(states) => !gone.subset(states),
         None => false,
     }
 }
 
-/// The entry that says which states of a vertex are gone, if an incompatibility has a term there that lacks some.
-fn unit_for<S: States + Drop>(
-    store: &Store<S>,
-    incompatibility: &Incompatibility<S>,
-    vertex: usize,
-) -> Option<Id>
-    requires { LieSomewhere (entries_view S.tests store.now) (terms_view S.tests incompatibility.now) }
-    ensures { IsUnitFor (entries_view S.tests store.now) (terms_view S.tests incompatibility.now) vertex result }
-{
-    let unit = match store.notes().unit_at(vertex) {
-        Some(unit) => unit,
-        None => return None,
-    };
-    if unit.index() >= store.len() {
-        return None;
-    }
-    let states = match states_on(incompatibility, vertex) {
-        Some(states) => states,
-        None => return None,
-    };
-    if has_more(states, store.get(unit), vertex) {
-        return Some(unit);
-    }
-    None
-}
-
-/// What is held with the states of its term at a vertex that are gone at level 0: no term there, if all others are.
+/// What is held with the states of its term at a vertex that a unit says are gone: no term there, if all others are.
 fn with_unit<S: States + Drop>(
     alloc: Global,
     trail: &Trail<S>,
     store: &Store<S>,
     held: Held<S>,
-    vertex: usize,
+    link: Link,
 ) -> Result<Held<S>, AllocError>
     requires trail { IsTrail (entries_view S.tests store.now) (trail_view S.tests trail.now) }
     requires held { IsHeld (entries_view S.tests store.now) (trail_view S.tests trail.now)
@@ -86,43 +91,96 @@ fn with_unit<S: States + Drop>(
     ensures { IfOk result (λ h. IsHeld (entries_view S.tests store.now) (trail_view S.tests trail.now)
         (terms_view S.tests h.incompatibility) h.chain) }
 {
-    let unit = match unit_for(store, &held.incompatibility, vertex) {
-        Some(unit) => unit,
-        None => return Ok(held),
-    };
+    let Link { with: unit, vertex } = link;
+    let says_more = is_unit_for(store, &held.incompatibility, vertex, unit);
+    if !says_more {
+        return Ok(held);
+    }
     let made = combine(alloc, &held.incompatibility, store.get(unit), vertex)?;
     let mut chain = held.chain;
-    chain.push(Link { with: unit, vertex })?;
+    chain.push(link)?;
     Ok(Held {
         incompatibility: made,
         chain,
     })
 }
 
-/// The vertices of an incompatibility's terms at which something is noted to be gone.
-fn vertices_of<S: States + Drop>(
+/// How many states of a vertex an entry says are gone.
+fn count_of<S: States + Drop>(store: &Store<S>, unit: Id, vertex: usize) -> u32 {
+    match gone_by(store, unit, vertex) {
+        Some(gone) => gone.count(),
+        None => 0,
+    }
+}
+
+/// The units of a vertex that a new one of so many states takes up: those on top, down to one that isn't small and has
+/// more states than the new one then has.
+fn units_for_new<S: States + Drop>(store: &Store<S>, vertex: usize, states: u32) -> &[Id] {
+    let units = store.notes().units_at(vertex);
+    let mut size = states;
+    let mut taken = 0_usize;
+    'units: for unit in units.iter().rev() {
+        let gone = count_of(store, *unit, vertex);
+        if gone > SMALL.max(size) {
+            break;
+        }
+        size = size.saturating_add(gone);
+        taken = taken.saturating_add(1);
+    }
+    &units[units.len().saturating_sub(taken)..]
+}
+
+/// The links by which an incompatibility takes up units of a vertex, the newest first.
+fn push_links<S: States + Drop>(
+    links: &mut Vec<Link>,
+    store: &Store<S>,
+    incompatibility: &Incompatibility<S>,
+    vertex: usize,
+    units: &[Id],
+) -> Result<(), AllocError>
+    requires { LieSomewhere (entries_view S.tests store.now) (terms_view S.tests incompatibility.now) }
+{
+    'units: for unit in units.iter().rev() {
+        if is_unit_for(store, incompatibility, vertex, *unit) {
+            links.push(Link {
+                with: *unit,
+                vertex,
+            })?;
+        }
+    }
+    Ok(())
+}
+
+/// The links by which an incompatibility takes up what is gone at its terms' vertices. If it is to be a unit itself, it
+/// takes up those of its own vertex alone that a new one does.
+fn links_of<S: States + Drop>(
     alloc: Global,
     store: &Store<S>,
     incompatibility: &Incompatibility<S>,
-) -> Result<Vec<usize>, AllocError>
+    own: Option<usize>,
+) -> Result<Vec<Link>, AllocError>
     requires { LieSomewhere (entries_view S.tests store.now) (terms_view S.tests incompatibility.now) }
 {
-    let mut vertices = Vec::new(alloc);
+    let mut links = Vec::new(alloc);
     'terms: for term in incompatibility.terms() {
-        if unit_for(store, incompatibility, term.vertex).is_some() {
-            vertices.push(term.vertex)?;
-        }
+        let vertex = term.vertex;
+        let units = if own == Some(vertex) {
+            units_for_new(store, vertex, term.states.count())
+        } else {
+            store.notes().units_at(vertex)
+        };
+        push_links(&mut links, store, incompatibility, vertex, units)?;
     }
-    Ok(vertices)
+    Ok(links)
 }
 
-/// An entry with what is gone at level 0 at some vertices.
+/// An entry with what is gone at level 0, by some links.
 fn with_units<S: States + Drop>(
     alloc: Global,
     trail: &Trail<S>,
     store: &Store<S>,
     id: Id,
-    vertices: Vec<usize>,
+    links: Vec<Link>,
 ) -> Result<Held<S>, AllocError>
     requires trail { IsTrail (entries_view S.tests store.now) (trail_view S.tests trail.now) }
     requires within { id < length (entries_view S.tests store.now) }
@@ -134,8 +192,8 @@ fn with_units<S: States + Drop>(
         incompatibility,
         chain: Chain::new(alloc, id),
     };
-    'vertices: for vertex in &vertices {
-        held = with_unit(alloc, trail, store, held, *vertex)?;
+    'links: for link in &links {
+        held = with_unit(alloc, trail, store, held, *link)?;
     }
     Ok(held)
 }
@@ -183,13 +241,14 @@ fn note_stand_ins<S: States + Drop>(
 }
 
 /// What stands in for an entry: one that has taken up all that is gone at level 0, which the store gains where it has
-/// none; or the one so far where there is no room.
+/// none; or the one so far where there is no room. If it is to be a unit, `own` is its vertex.
 pub(crate) fn stand_in_for<S: States + Drop>(
     alloc: Global,
     trail: &Trail<S>,
     store: &mut Store<S>,
     first: usize,
     id: Id,
+    own: Option<usize>,
 ) -> Result<Id, AllocError>
     requires trail { IsTrail (entries_view S.tests store.old) (trail_view S.tests trail.now) }
     requires within { id < length (entries_view S.tests store.old) }
@@ -201,14 +260,14 @@ pub(crate) fn stand_in_for<S: States + Drop>(
     ensures room { HasRoom first (trail_view S.tests trail.now) (entries_view S.tests store.new) }
 {
     let current = stand_in_of(store, id);
-    let vertices = vertices_of(alloc, store, store.get(current))?;
-    if vertices.is_empty() {
+    let links = links_of(alloc, store, store.get(current), own)?;
+    if links.is_empty() {
         return Ok(current);
     }
     if !has_room(trail, store, first) {
         return Ok(current);
     }
-    let held = with_units(alloc, trail, store, current, vertices)?;
+    let held = with_units(alloc, trail, store, current, links)?;
     if !is_lone(trail, &held.incompatibility) {
         return Ok(current);
     }
@@ -224,14 +283,37 @@ fn is_unit<S: States + Drop>(incompatibility: &Incompatibility<S>, vertex: usize
     }
 }
 
-/// Notes that a place was taken up, and the entry that says what is gone at its vertex, if this does.
+/// The units of a vertex with a new one, which takes the place of those that say no more than it.
+fn units_with<S: States + Drop>(
+    alloc: Global,
+    store: &Store<S>,
+    vertex: usize,
+    unit: Id,
+) -> Result<Vec<Id>, AllocError>
+    requires within { unit < length (entries_view S.tests store.now) }
+    requires lies { LieSomewhere (entries_view S.tests store.now) (entry (entries_view S.tests store.now) unit).terms }
+{
+    let new = store.get(unit);
+    let mut units = Vec::new(alloc);
+    'others: for other in store.notes().units_at(vertex) {
+        if is_unit_for(store, new, vertex, *other) {
+            units.push(*other)?;
+        }
+    }
+    units.push(unit)?;
+    Ok(units)
+}
+
+/// Notes that a place was taken up, and the entry as a unit of the place's vertex, if it is one.
 fn note_place<S: States + Drop>(
+    alloc: Global,
     store: &mut Store<S>,
     place: usize,
     vertex: usize,
     unit: Id,
 ) -> Result<(), AllocError>
-    requires { unit < length (entries_view S.tests store.old) }
+    requires within { unit < length (entries_view S.tests store.old) }
+    requires lies { LieSomewhere (entries_view S.tests store.old) (entry (entries_view S.tests store.old) unit).terms }
     ensures { entries_view S.tests store.new ≡ entries_view S.tests store.old }
 {
     let says = is_unit(store.get(unit), vertex);
@@ -239,10 +321,11 @@ fn note_place<S: States + Drop>(
     if !says {
         return Ok(());
     }
-    store.note_unit(vertex, unit)
+    let units = units_with(alloc, store, vertex, unit)?;
+    store.note_units(vertex, units)
 }
 
-/// Takes up a place of level 0, which an entry forced: what stands in for the entry says what is gone at the vertex.
+/// Takes up a place of level 0, which an entry forced: what stands in for the entry is a unit of the vertex.
 fn take_up<S: States + Drop>(
     alloc: Global,
     trail: &Trail<S>,
@@ -262,8 +345,9 @@ fn take_up<S: States + Drop>(
     if forced_by.index() >= store.len() {
         return Ok(());
     }
-    let unit = stand_in_for(alloc, trail, store, first, forced_by)?;
-    note_place(store, place, trail.vertex_at(place), unit)
+    let vertex = trail.vertex_at(place);
+    let unit = stand_in_for(alloc, trail, store, first, forced_by, Some(vertex))?;
+    note_place(alloc, store, place, vertex, unit)
 }
 
 /// Takes up the places of level 0 that came since it was done last: those up to the first decision.

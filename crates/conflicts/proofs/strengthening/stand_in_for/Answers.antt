@@ -8,8 +8,8 @@ use Rattle.conflicts.proofs.Steps.{start_lies}
 use Rattle.conflicts.proofs.Gained.{gained_is, gained_none, trail_new}
 use Rattle.conflicts.proofs.strengthening.stand_in_for.Goals as goal
 
-pub vertices_of-requires : goal.vertices_of-requires
-vertices_of-requires g c =
+pub links_of-requires : goal.links_of-requires
+links_of-requires g c =
     let tests = g.S.States.tests in
     let es = entries_view tests c.args.store.now in
     let t = trail_view tests c.args.trail.now in (
@@ -32,7 +32,8 @@ returns-clause-gained g c =
     let t = trail_view tests c.args.trail.now in
     let new = entries_view tests c.keep.new.store in
     let held = c.in_ok-held.held in
-    subst (λ (xs : List EntryView). (gained : List EntryView) × IsGained es t xs gained) (sym c.note_stand_ins.ensures.same)
+    subst (λ (xs : List EntryView). (gained : List EntryView) × IsGained es t xs gained)
+    (sym c.note_stand_ins.ensures.same)
     (gained_is es t (terms_view tests held.incompatibility) held.chain new c.in_ok-made.made c.requires.trail
     c.in_ok-held.ensures (λ quiet. c.if-not-is_lone.ensures) c.in_ok-made.ensures.kept)
 

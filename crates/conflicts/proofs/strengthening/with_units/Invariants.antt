@@ -4,6 +4,6 @@ use Rattle.propagation.specs.Trails.{trail_view}
 use Rattle.conflicts.specs.Resolving.{IsHeld}
 use Rattle.conflicts.proofs.strengthening.with_units.Given as goal
 
-abbrev pub invariant-vertices : goal.invariant-vertices
-invariant-vertices g l = let tests = g.S.States.tests in IsHeld (entries_view tests l.store)
+abbrev pub invariant-links : goal.invariant-links
+invariant-links g l = let tests = g.S.States.tests in IsHeld (entries_view tests l.store)
     (trail_view tests l.trail) (terms_view tests l.held.incompatibility) l.held.chain
