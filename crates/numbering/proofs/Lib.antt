@@ -30,3 +30,4 @@ pub mod Requirements
 pub mod Keeping
 pub mod Alone
 pub mod RangeLaws
+pub mod Releases

@@ -1,6 +1,9 @@
 //! What requirements match, kept so that no requirement is matched twice against one name.
 
-ghost use Rattle.std.specs.Prelude.{◌≡◌, ◌-◌, IfOk, IfSome, drop, map, take};
+ghost use Rattle.std.specs.Bool.{OnTrue};
+ghost use Rattle.std.specs.List.{list_all};
+ghost use Rattle.std.specs.Prelude.{◌≡◌, ◌-◌, IfOk, IfSome, drop, map, take, true};
+ghost use Rattle.lookups.specs.inner.Matching.{is_release};
 ghost use Rattle.classes.specs.Classes.{class_view};
 ghost use Rattle.features.specs.Views.{dependency_view};
 ghost use Rattle.lookups.specs.inner.Views.{problem_view};
@@ -9,6 +12,7 @@ ghost use Rattle.vertices.specs.inner.RefViews.{owner_ref_view};
 ghost use Rattle.numbering.specs.inner.Called.{numbered_from, numbered_views};
 ghost use Rattle.numbering.specs.inner.IndexedViews.{problem_indexed};
 ghost use Rattle.numbering.specs.inner.Matched.{AreMatched, AreNamed, IsOfReleases, kept_classes, name_classes};
+ghost use Rattle.numbering.specs.inner.Matched.{name_versions};
 ghost use Rattle.numbering.specs.inner.OnPackage.{on_package};
 
 use crate::asked::Asked;
@@ -37,13 +41,13 @@ pub(crate) enum Kept {
     Each(Vec<Class>),
 }
 
-/// From so many classes of a name on, ranges of them are kept.
+/// From so many versions of a name on its classes are kept, and from so many classes on ranges of them.
 const MANY: usize = 64;
 
 /// By name and requirement, the classes of the candidates that are matched; and what owners bring, found by name.
 ///
-/// All classes of a name are kept where they are many, as a range of them takes a look-up more than a list, and none of
-/// its versions is a pre-release, as only there a range is told.
+/// All classes of a name are kept where its versions are many and none is a pre-release, as only there a range is told;
+/// and a range of classes where these are many, as it takes a look-up more than a list.
 /// Nothing but time rests on what is kept: what isn't is matched where it is asked for.
 #[derive(Drop)]
 pub struct Matched<'a> {
@@ -106,6 +110,14 @@ impl<'a> Matched<'a> {
             Some(None) => None,
             None => None,
         }
+    }
+
+    /// Whether it is kept that no version of a name is a pre-release: to look at each takes n times as much where as many
+    /// requirements are on n versions.
+    pub(crate) fn has_releases_alone(&self, name: &'a PackageName) -> bool
+        ensures { OnTrue result (list_all is_release (name_versions (problem_of self.now) name.now) ≡ true) }
+    {
+        self.all_of(name).is_some()
     }
 
     /// The classes to which a dependency may lead, lowest first: those that are kept, else it is matched for them.
@@ -262,6 +274,9 @@ impl<'a> Matched<'a> {
             ≡ dep_classes (problem_of self.now) (dependency_view dependency.now)) }
     {
         let classes = self.all_of(&dependency.real_name)?;
+        if classes.len() < MANY {
+            return None;
+        }
         range_among(&self.problem, dependency, classes)
     }
 }
@@ -283,7 +298,7 @@ fn range_among(
     class_range(requirement, versions, classes)
 }
 
-/// All classes of a name, lowest first, if they are many and none of its versions is a pre-release.
+/// All classes of a name, lowest first, if its versions are many and none of them is a pre-release.
 fn release_classes(
     alloc: Global,
     problem: &Problem<'_>,
@@ -298,11 +313,7 @@ fn release_classes(
     if !are_releases(versions) {
         return Ok(None);
     }
-    let classes = all_classes(alloc, versions)?;
-    if classes.len() < MANY {
-        return Ok(None);
-    }
-    Ok(Some(classes))
+    Ok(Some(all_classes(alloc, versions)?))
 }
 
 /// The owner that a vertex is in a state: the root where it is present, a version where it is chosen.

@@ -2,7 +2,7 @@
 
 ghost use Rattle.std.specs.Prelude.{◌≡◌, ◌∷◌, ◌++◌, ◌+◌, ◌-◌, ◌<◌, ◌≤◌, ◌^◌, true, false, if◌then◌else◌, length, not};
 ghost use Rattle.std.specs.Prelude.{map, position, replicate, IfOk, IfSome};
-ghost use Rattle.std.specs.List.{AllPairs};
+ghost use Rattle.std.specs.List.{AllPairs, list_all};
 ghost use Rattle.std.specs.List.Sorted.{IsPartitionPoint};
 ghost use Rattle.std.specs.Ordering.{is_lt};
 ghost use Rattle.semver.specs.Identifiers.{parts_of};
@@ -13,7 +13,7 @@ ghost use Rattle.model.specs.Axioms.{is_lower};
 ghost use Rattle.model.specs.Order.{precedence};
 ghost use Rattle.model.specs.Summary.{has_feature};
 ghost use Rattle.numbering.specs.inner.TestedTerms.{is_chosen, is_class, lone_view, states_view};
-ghost use Rattle.lookups.specs.inner.Matching.{is_left, tests_of_range};
+ghost use Rattle.lookups.specs.inner.Matching.{is_left, is_release, tests_of_range};
 ghost use Rattle.lookups.specs.inner.Ranges.{AreRising};
 ghost use Rattle.semver.specs.EvalViews.{matches_views};
 ghost use Rattle.version_sets.specs.Sets.{has, none, only};
@@ -21,7 +21,7 @@ ghost use Rattle.version_sets.specs.Sets.{has, none, only};
 use catalogue::Candidate;
 use classes::{Class, is_matched};
 use features::FeatureName;
-use lookups::{are_releases, is_left, matched_range};
+use lookups::{is_left, matched_range};
 use semver::{Version, VersionReq};
 use std::alloc::{AllocError, Global};
 
@@ -72,12 +72,14 @@ pub(crate) fn left_tests(
     alloc: Global,
     requirement: &VersionReq,
     versions: &[Version],
+    are_releases: bool,
 ) -> Result<Tests, AllocError>
-    requires { AreRising versions.now }
+    requires rising { AreRising versions.now }
+    requires releases { are_releases ≡ true → list_all (λ w. is_release (parts_of w)) versions.now ≡ true }
     ensures { IfOk result (λ t. states_view t
         ≡ true ∷ map (λ w. is_left (requirement_view requirement.now) (parts_of w)) versions.now) }
 {
-    match range_among(requirement, versions) {
+    match range_among(requirement, versions, are_releases) {
         Some((from, to)) => Ok(range_tests(false, from, to, versions.len())),
         None => Ok(Tests::Each(each_left(alloc, requirement, versions)?)),
     }
@@ -88,12 +90,14 @@ pub(crate) fn taken_tests(
     alloc: Global,
     requirement: &VersionReq,
     versions: &[Version],
+    are_releases: bool,
 ) -> Result<Tests, AllocError>
-    requires { AreRising versions.now }
+    requires rising { AreRising versions.now }
+    requires releases { are_releases ≡ true → list_all (λ w. is_release (parts_of w)) versions.now ≡ true }
     ensures { IfOk result (λ t. states_view t
         ≡ false ∷ map (λ w. matches_views (requirement_view requirement.now) (parts_of w)) versions.now) }
 {
-    match range_among(requirement, versions) {
+    match range_among(requirement, versions, are_releases) {
         Some((from, to)) => Ok(range_tests(true, from, to, versions.len())),
         None => Ok(Tests::Each(each_taken(alloc, requirement, versions)?)),
     }
@@ -102,13 +106,18 @@ pub(crate) fn taken_tests(
 /// From which place on and up to which versions are matched, where these are all that are: where no version is a
 /// pre-release. A class may have thousands of versions and be asked about by as many requirements, so to match each of
 /// them would be slow.
-fn range_among(requirement: &VersionReq, versions: &[Version]) -> Option<(usize, usize)>
-    requires { AreRising versions.now }
+fn range_among(
+    requirement: &VersionReq,
+    versions: &[Version],
+    are_releases: bool,
+) -> Option<(usize, usize)>
+    requires rising { AreRising versions.now }
+    requires releases { are_releases ≡ true → list_all (λ w. is_release (parts_of w)) versions.now ≡ true }
     ensures { IfSome result (λ r. (r.0 ≤ r.1) × ((r.1 ≤ length versions.now)
         × (map (λ w. matches_views (requirement_view requirement.now) (parts_of w)) versions.now
         ≡ tests_of_range r.0 r.1 (length versions.now)))) }
 {
-    if are_releases(versions) {
+    if are_releases {
         matched_range(requirement, versions)
     } else {
         None

@@ -1,6 +1,10 @@
 //! The terms of the instance that a cause gives rise to, each as a vertex and tests of its space.
 
-ghost use Rattle.std.specs.Prelude.{◌≡◌, ◌∷◌, [], true, false, not, Some, IfOk};
+ghost use Rattle.std.specs.List.{list_all};
+ghost use Rattle.std.specs.Prelude.{◌≡◌, ◌∷◌, [], true, false, filter, map, not, Some, IfOk};
+ghost use Rattle.catalogue.specs.Stores.{candidates_at};
+ghost use Rattle.lookups.specs.inner.Matching.{is_release};
+ghost use Rattle.lookups.specs.inner.Ranges.{is_of};
 ghost use Rattle.semver.specs.Identifiers.{parts_of};
 ghost use Rattle.classes.specs.Classes.{class_view};
 ghost use Rattle.features.specs.Views.{dependency_view};
@@ -24,7 +28,7 @@ use crate::space_tests::{
 use catalogue::catalogues_are_well_formed;
 use classes::Class;
 use features::{DependencyParts, FeatureName, PackageName};
-use lookups::{Cause, class_candidates, class_versions};
+use lookups::{Cause, are_releases, class_candidates, class_versions};
 use semver::Version;
 use std::alloc::{AllocError, Global};
 use vertices::{OwnerRef, VertexRef};
@@ -300,6 +304,23 @@ fn target_terms<'a>(
     }
 }
 
+/// Whether none of the versions of a class is a pre-release: what is kept of the name says so, or they are looked at.
+fn are_releases_in<'a>(
+    known: &KnownProblem<'a>,
+    name: &'a PackageName,
+    class: Class,
+    versions: &[Version],
+) -> bool
+    requires { map parts_of versions.now
+        ≡ filter (is_of (class_view class)) (map (λ r. r.version) (candidates_at known.now.catalogue.now name.now)) }
+    ensures { result ≡ list_all (λ w. is_release (parts_of w)) versions.now }
+{
+    if known.matched.has_releases_alone(name) {
+        return true;
+    }
+    are_releases(versions)
+}
+
 /// The package is absent or has a version of the class that isn't matched.
 fn left<'a>(
     alloc: Global,
@@ -313,7 +334,8 @@ fn left<'a>(
         (dependency_view dependency.entry.now).real_name (class_view class)))) }
 {
     let versions = class_versions(known.catalogue, &dependency.real_name, class);
-    let tests = left_tests(alloc, &dependency.requirement, versions)?;
+    let are_releases = are_releases_in(known, &dependency.real_name, class, versions);
+    let tests = left_tests(alloc, &dependency.requirement, versions, are_releases)?;
     Ok(package_term(&dependency.real_name, class, tests))
 }
 
@@ -331,7 +353,8 @@ fn taken<'a>(
         (dependency_view dependency.entry.now).real_name (class_view class)))) }
 {
     let versions = class_versions(known.catalogue, &dependency.real_name, class);
-    let tests = taken_tests(alloc, &dependency.requirement, versions)?;
+    let are_releases = are_releases_in(known, &dependency.real_name, class, versions);
+    let tests = taken_tests(alloc, &dependency.requirement, versions, are_releases)?;
     Ok(package_term(&dependency.real_name, class, tests))
 }
 

@@ -12,7 +12,7 @@ pub returns : goal.returns
 returns c =
     let k = c.args.problem.now in
     let are = c.versions-versions.ensures.versions ∙ versions_are k.manifest.now k.catalogue.now c.args.name.now in (
-      c.in_ok-classes.ensures ∙ ap (λ ps. each_once (map class_of ps)) are,
+      c.in_ok-all_classes.ensures ∙ ap (λ ps. each_once (map class_of ps)) are,
       ap (list_all is_release) (sym are) ∙ all-map is_release parts_of c.versions-versions.result.now
           ∙ sym c.are_releases.ensures ∙ c.if-not-are_releases.false,
     )
