@@ -6,7 +6,7 @@ use Rattle.std.proofs.lemmas.List.Folds.{list_any-append}
 use Rattle.model.specs.Summary.{Summary, Entry, feature, dependency, dependency_feature, weak_feature, Table}
 use Rattle.model.specs.Summary.{entries_at}
 use Rattle.manifest.specs.Manifests.{asked_by, root_asks}
-use Rattle.refutations.specs.Causes.{asks_for, entries_or_none, same_pair}
+use Rattle.model.specs.Causes.{asks_for, entries_or_none, same_pair}
 use Rattle.axioms.specs.inner.Asking.{row_may_ask, row_names}
 
 entries_ask : (d g : List ℕ) (es : List Entry)

@@ -6,7 +6,7 @@ use Rattle.std.specs.List.{list_any}
 use Rattle.model.specs.Summary.{Entry, Summary, Table, entries_at}
 use Rattle.model.specs.Summary.{feature, dependency, dependency_feature, weak_feature}
 use Rattle.model.proofs.Flips.{text-flips}
-use Rattle.refutations.specs.Causes.{entries_or_none, same_entry}
+use Rattle.model.specs.Causes.{entries_or_none, same_entry}
 use Rattle.axioms.specs.inner.Entries.{AddsEntries, HasEntries, has_named, named_view, row_has}
 use Rattle.axioms.specs.contracts.entries.NamedPartialEq.TheImpl as named_eq
 use Rattle.axioms.specs.declared.entries.Named.{Named}

@@ -18,7 +18,7 @@ use Rattle.model.proofs.Flips.{text-flips}
 use Rattle.model.proofs.Mapped.{any-map}
 use Rattle.manifest.specs.Manifests.{ManifestView}
 use Rattle.manifest.specs.Manifests as manifest
-use Rattle.refutations.specs.Causes.{asks_for, entries_or_none, owner_asks, owners_in, same_pair}
+use Rattle.model.specs.Causes.{asks_for, entries_or_none, owner_asks, owners_in, same_pair}
 use Rattle.catalogue.specs.Problems.{problem_in}
 use Rattle.catalogue.specs.Ranks.{records}
 use Rattle.model.specs.Candidates.{as_candidate}

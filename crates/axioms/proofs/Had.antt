@@ -19,7 +19,7 @@ use Rattle.catalogue.specs.Views.{Said, said, said_by}
 use Rattle.catalogue.specs.declared.candidate.Candidate as held
 use Rattle.lookups.specs.inner.Ranges.{is_of}
 use Rattle.lookups.proofs.Classed.{class_is_of}
-use Rattle.refutations.specs.Causes.{terms_of_cause, of_feature}
+use Rattle.model.specs.Causes.{terms_of_cause, of_feature}
 use Rattle.axioms.specs.inner.Keeping.{is_had}
 
 pub had_is : (m : ManifestView) (c : CatalogueView) (name : List ℕ) (k : Class) (cs : List held.Candidate)

@@ -14,7 +14,7 @@ use Rattle.features.proofs.TextMaps.{at_text-get}
 use Rattle.model.specs.Summary.{same_text}
 use Rattle.model.proofs.Same.{text-same}
 use Rattle.model.proofs.Flips.{text-flips}
-use Rattle.refutations.specs.Causes.{same_pair}
+use Rattle.model.specs.Causes.{same_pair}
 use Rattle.axioms.specs.inner.Pairs.{keys_if}
 
 pub or-none : (b : Bool) → b ≡ (b || false)

@@ -16,7 +16,7 @@ use Rattle.model.specs.Axioms.{at, is_full, matched}
 use Rattle.model.specs.Candidates.{Record, as_candidate}
 use Rattle.model.proofs.Same.{class-same}
 use Rattle.manifest.specs.Manifests.{ManifestView}
-use Rattle.refutations.specs.Causes.{dependency_at}
+use Rattle.model.specs.Causes.{dependency_at}
 use Rattle.catalogue.specs.Problems.{problem_in}
 use Rattle.catalogue.specs.Stores.{CatalogueView, candidates_at, rows_by_name}
 use Rattle.axioms.specs.inner.FullTerms.{classes_if, others, has_if_matched}

@@ -4,7 +4,7 @@ ghost use Rattle.std.specs.Prelude.{◌≡◌, List, OnOk};
 ghost use Rattle.std.specs.List.{list_any};
 ghost use Rattle.features.specs.EntryViews.{entry_view, entry_views};
 ghost use Rattle.model.specs.Summary as model;
-ghost use Rattle.refutations.specs.Causes.{same_entry};
+ghost use Rattle.model.specs.Causes.{same_entry};
 ghost use Rattle.axioms.specs.inner.Entries.{AddsEntries, has_named, named_view, row_has};
 
 use features::{Entry, FeatureName, FeatureTable, PackageName};

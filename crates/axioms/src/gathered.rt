@@ -8,7 +8,7 @@ ghost use Rattle.axioms.specs.inner.KeptViews as known;
 ghost use Rattle.axioms.specs.inner.Listed.{AreLists, AreOfOwners, AreOfRows};
 ghost use Rattle.axioms.specs.inner.Pairs.{HasThose};
 ghost use Rattle.lookups.specs.inner.Views.{problem_view};
-ghost use Rattle.refutations.specs.Causes.{same_pair};
+ghost use Rattle.model.specs.Causes.{same_pair};
 ghost use Rattle.std.specs.List.{list_any};
 
 use crate::entries::Named;
@@ -56,7 +56,7 @@ impl<'a> Gathered<'a> {
     ghost use Rattle.model.specs.Vertices.{dep_classes};
     ghost use Rattle.classes.specs.Classes.{class_view};
     ghost use Rattle.features.specs.Views.{dependency_view};
-    ghost use Rattle.refutations.specs.Causes.{has_class};
+    ghost use Rattle.model.specs.Causes.{has_class};
 
     /// Gathers what is looked up for each step.
     ///

@@ -17,7 +17,7 @@ ghost use Rattle.features.specs.EntryViews.{entry_view, entry_views};
 ghost use Rattle.model.specs.Content.{candidates_of};
 ghost use Rattle.model.specs.Optional.{passes};
 ghost use Rattle.model.specs.Summary.{asked_of_target, has_feature, same_text};
-ghost use Rattle.refutations.specs.Causes.{asks_for, same_pair};
+ghost use Rattle.model.specs.Causes.{asks_for, same_pair};
 ghost use Rattle.catalogue.specs.Problems.{problem_in};
 ghost use Rattle.catalogue.specs.Stores.{rows_by_name};
 ghost use Rattle.axioms.specs.inner.Asking.{row_may_ask, row_names};

@@ -4,7 +4,7 @@ ghost use Rattle.std.specs.Prelude.{◌≡◌, ◌&&◌, true};
 ghost use Rattle.std.specs.List.{list_any};
 ghost use Rattle.classes.specs.Classes.{class_view};
 ghost use Rattle.model.specs.Vertices.{class_candidates};
-ghost use Rattle.refutations.specs.Causes.{has_feature_vertex};
+ghost use Rattle.model.specs.Causes.{has_feature_vertex};
 ghost use Rattle.axioms.specs.inner.Gathered.{is_known_feature};
 ghost use Rattle.axioms.specs.inner.GatheredViews.{problem_of};
 ghost use Rattle.lookups.specs.inner.Views.{problem_view};

@@ -2,7 +2,7 @@
 
 ghost use Rattle.std.specs.Prelude.{◌≡◌, IfOk};
 ghost use Rattle.vertices.specs.Kinds.{kind_view};
-ghost use Rattle.refutations.specs.inner.Instances.{is_instance, is_its};
+ghost use Rattle.model.specs.inner.Instances.{is_instance, is_its};
 ghost use Rattle.lookups.specs.inner.CauseViews.{cause_view};
 ghost use Rattle.axioms.specs.inner.GatheredViews.{problem_of};
 ghost use Rattle.lookups.specs.inner.TermViews.{term_views};

@@ -3,7 +3,7 @@
 ghost use Rattle.std.specs.Prelude.{◌≡◌};
 ghost use Rattle.semver.specs.Identifiers.{parts_of};
 ghost use Rattle.classes.specs.Classes.{class_view};
-ghost use Rattle.refutations.specs.Causes.{is_cause, of_asking, of_entry, of_need, of_target};
+ghost use Rattle.model.specs.Causes.{is_cause, of_asking, of_entry, of_need, of_target};
 ghost use Rattle.vertices.specs.inner.RefViews.{owner_ref_view};
 ghost use Rattle.lookups.specs.inner.Views.{problem_view};
 ghost use Rattle.lookups.specs.inner.CauseViews.{cause_view};

@@ -9,7 +9,7 @@ ghost use Rattle.semver.specs.Identifiers.{parts_of};
 ghost use Rattle.features.specs.Views.{dependency_view};
 ghost use Rattle.model.specs.Optional.{passes};
 ghost use Rattle.model.specs.Summary.{asked_of_target, same_text};
-ghost use Rattle.refutations.specs.Causes.{dependency_at, has_entry, same_entry, some_entry};
+ghost use Rattle.model.specs.Causes.{dependency_at, has_entry, same_entry, some_entry};
 ghost use Rattle.vertices.specs.inner.RefViews.{owner_ref_view};
 ghost use Rattle.axioms.specs.inner.Entries.{named_view};
 ghost use Rattle.axioms.specs.inner.GatheredViews.{problem_of};

@@ -2,7 +2,7 @@
 
 ghost use Rattle.std.specs.Prelude.{◌≡◌, ◌&&◌, ◌||◌, false, List, ℕ, OnOk};
 ghost use Rattle.model.specs.Summary.{same_text};
-ghost use Rattle.refutations.specs.Causes.{same_pair};
+ghost use Rattle.model.specs.Causes.{same_pair};
 ghost use Rattle.std.specs.List.{list_any};
 
 use std::alloc::{AllocError, Global};

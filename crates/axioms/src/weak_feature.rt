@@ -5,7 +5,7 @@ ghost use Rattle.semver.specs.Identifiers.{parts_of};
 ghost use Rattle.classes.specs.Classes.{class_view};
 ghost use Rattle.features.specs.Views.{dependency_view};
 ghost use Rattle.model.specs.Vertices.{feat, same_vertex};
-ghost use Rattle.refutations.specs.Causes.{is_cause, is_weak_on, of_weak};
+ghost use Rattle.model.specs.Causes.{is_cause, is_weak_on, of_weak};
 ghost use Rattle.axioms.specs.inner.GatheredViews.{problem_of};
 
 use crate::entries::Named;

@@ -1,11 +1,15 @@
--- What a selection is held against, in a run for a manifest (Cargo book, "Dependency Resolution"): the model's problem.
-use Rattle.std.specs.Prelude.{◌≡◌, ℕ, true, List, [], Contains, Option, Some, None, map}
+-- What a selection is held against, in a run for a manifest, and which is preferred (Cargo book, "Dependency
+-- Resolution"): the model's problem and its candidates by name.
+use Rattle.std.specs.Prelude.{◌≡◌, ℕ, true, List, [], ◌++◌, Contains, Option, Some, None, filter, map, reverse}
 use Rattle.std.specs.List.{All}
 use Rattle.model.specs.Content.{Candidate, Content, Package, Problem}
 use Rattle.model.specs.Candidates.{Record, as_candidate, is_locked}
 use Rattle.manifest.specs.Manifests.{ManifestView, root_asks}
 use Rattle.catalogue.specs.Runs.{Asked, Calls, IsRun, candidates_in, records_of, AreNext, next_name}
+use Rattle.catalogue.specs.Ranks.{Ranked, records, same_rank}
 use Rattle.catalogue.specs.Stores.{CatalogueView, rows_by_name}
+use Rattle.catalogue.specs.declared.candidate.Rank.{Rank}
+use Rattle.catalogue.specs.declared.candidate.Rank.TheVariants.{Locked, Fits, Rest}
 
 -- the names that were asked for
 abbrev pub names_in : List Asked → List (List ℕ)
@@ -33,6 +37,18 @@ problem_of manifest old source asked = problem_over manifest source (candidates_
 -- over a loaded index
 abbrev pub problem_in : ManifestView → CatalogueView → Problem
 problem_in manifest index = problem_over manifest index.source (rows_by_name index)
+
+-- of candidates that stand oldest first, those of a rank, newest first
+abbrev pub of_rank : Rank → List Ranked → List Record
+of_rank rank cs = reverse (records (filter (λ c. same_rank c.1 rank) cs))
+
+-- the candidates in the order of preference: the locked ones, then those that fit, then the rest, each newest first
+abbrev pub by_rank : List Ranked → List Record
+by_rank cs = of_rank Locked cs ++ (of_rank Fits cs ++ of_rank Rest cs)
+
+-- the candidates by name, the most preferred first
+abbrev pub preferred_in : CatalogueView → List (List ℕ × List Candidate)
+preferred_in index = map (λ row. (row.0, map as_candidate (by_rank row.1))) index.rows
 
 -- a whole run of the folder for this manifest, with this old lock and this source, gives what a selection is held
 -- against

@@ -10,9 +10,9 @@ use Rattle.model.specs.Derivation.{states_at, SameAt, union_at, meet_at, combine
 use Rattle.model.proofs.Lists.{all_at}
 use Rattle.model.proofs.Same.{both, vertex-same}
 use Rattle.model.proofs.Tests.{one_test}
-use Rattle.refutations.specs.inner.Terms.{same_at, is_combination, speaks_of}
-use Rattle.refutations.proofs.Bools.{all_pass}
-use Rattle.refutations.proofs.Sets.{same_at-is, silent, term_at, is_combination-is}
+use Rattle.model.specs.inner.Terms.{same_at, is_combination, speaks_of}
+use Rattle.model.proofs.Bools.{all_pass}
+use Rattle.model.proofs.Sets.{same_at-is, silent, term_at, is_combination-is}
 use Rattle.checker.specs.inner.Combinations.{fits, fits_or_said, all_fit}
 
 module _ (q : Problem) (v : Vertex) (a b ts : List Term) where

@@ -6,10 +6,10 @@ use Rattle.std.proofs.lemmas.List.{append-nil, append_assoc}
 use Rattle.std.proofs.lemmas.Option.{none-some, same_Some}
 use Rattle.model.specs.Content.{Problem}
 use Rattle.model.specs.Derivation.{Step, given, combine, terms_of, IsStep, AreSteps, none_yet, one_more, IsAccepted}
-use Rattle.refutations.specs.inner.Checks as model
-use Rattle.refutations.specs.inner.Checks.{RefusedStep, ArePlain, is_step, reason_of, first_refused, is_none_left}
-use Rattle.refutations.specs.inner.Checks.{end_if, end_refused, refused_step, not_an_axiom, not_combined, not_final}
-use Rattle.refutations.proofs.Accepting.{refused-is, step-is, to_step}
+use Rattle.model.specs.inner.Checks as model
+use Rattle.model.specs.inner.Checks.{RefusedStep, ArePlain, is_step, reason_of, first_refused, is_none_left}
+use Rattle.model.specs.inner.Checks.{end_if, end_refused, refused_step, not_an_axiom, not_combined, not_final}
+use Rattle.model.proofs.Accepting.{refused-is, step-is, to_step}
 use Rattle.checker.specs.inner.Answers.{check_view, reason_view}
 use Rattle.checker.specs.RefusedSteps.{reason_for, IsRefusedAt}
 use Rattle.checker.specs.declared.outcome.Check.{Check}

@@ -18,9 +18,9 @@ use Rattle.model.specs.Derivation as steps
 use Rattle.model.specs.Order.{text_cmp}
 use Rattle.model.specs.Vertices.{same_vertex}
 use Rattle.model.proofs.Same.{vertex-other}
-use Rattle.refutations.specs.inner.Checks.{ArePlain, RefusedStep, combines, is_step, is_none_left, end_if, end_refused}
-use Rattle.refutations.specs.inner.Checks.{first_refused, reason_of}
-use Rattle.refutations.specs.inner.Terms.{is_combination}
+use Rattle.model.specs.inner.Checks.{ArePlain, RefusedStep, combines, is_step, is_none_left, end_if, end_refused}
+use Rattle.model.specs.inner.Checks.{first_refused, reason_of}
+use Rattle.model.specs.inner.Terms.{is_combination}
 use Rattle.vertices.specs.Texts.{vertex_text}
 use Rattle.derivations.specs.inner.Derivations.{IsTerm, AreTerms, AreStepsFrom, term_cmp}
 use Rattle.derivations.specs.inner.Tables.{TablesView, AreStepsOf, AreTermsOf, terms_at, step_at, steps_at}

@@ -5,8 +5,8 @@ ghost use Rattle.model.specs.Axioms as axioms;
 ghost use Rattle.model.specs.Content.{Content};
 ghost use Rattle.model.specs.Derivation.{IsAccepted};
 ghost use Rattle.model.specs.Selection.{IsValidSelection};
-ghost use Rattle.refutations.specs.inner.Checks.{end_refused, first_refused, is_none_left, is_step, reason_of};
-ghost use Rattle.refutations.specs.inner.Checks.{refused_step};
+ghost use Rattle.model.specs.inner.Checks.{end_refused, first_refused, is_none_left, is_step, reason_of};
+ghost use Rattle.model.specs.inner.Checks.{refused_step};
 ghost use Rattle.catalogue.specs.Problems.{problem_in};
 ghost use Rattle.derivations.specs.inner.Derivations.{IsDerivation};
 ghost use Rattle.derivations.specs.inner.Tables.{TablesView, step_at, step_by_origin, steps_at, terms_at};
@@ -26,7 +26,7 @@ use axioms::Gathered;
 use catalogue::{Catalogue, catalogues_are_well_formed};
 use derivations::{Derivation, Origin, Step, Tables, Term};
 use manifest::Manifest;
-use refutations::unrefused_derivations_refute;
+use model::refutations::unrefused_derivations_refute;
 use std::alloc::{AllocError, Global};
 
 /// Whether a derivation shows that a manifest has no valid selection over a loaded index.

@@ -3,7 +3,7 @@
 ghost use Rattle.std.specs.Prelude.{◌≡◌, ◌&&◌, Some};
 ghost use Rattle.std.specs.List.{AllByRecursion, list_all};
 ghost use Rattle.model.specs.Derivation.{both, meet_at, union_at};
-ghost use Rattle.refutations.specs.inner.Terms.{same_at, same_states};
+ghost use Rattle.model.specs.inner.Terms.{same_at, same_states};
 ghost use Rattle.derivations.specs.inner.Tables.{term_at, terms_at};
 ghost use Rattle.checker.specs.inner.Claims.{IsSound, claim_first, claim_problem, claim_second, claim_tables};
 ghost use Rattle.checker.specs.inner.Claims.{claim_vertex};

@@ -25,7 +25,7 @@ impl<'a> Names<'a> {
     ghost use Rattle.std.specs.Ordering.{nat_cmp};
     ghost use Rattle.model.specs.Derivation.{states_at};
     ghost use Rattle.model.specs.Vertices.{same_vertex};
-    ghost use Rattle.refutations.specs.inner.Terms.{same_states};
+    ghost use Rattle.model.specs.inner.Terms.{same_states};
     ghost use Rattle.derivations.specs.inner.Tables.{terms_at, vertex_at};
     ghost use Rattle.vertices.specs.Views.{vertex_view};
     ghost use Rattle.checker.specs.inner.Ready.{AreReady, IsReady, IsSetIf, tables_of};

@@ -4,7 +4,7 @@ ghost use Rattle.std.specs.Prelude.{◌≡◌, List, IfOk};
 ghost use Rattle.std.specs.List.{AllByRecursion};
 ghost use Rattle.model.specs.Axioms as model;
 ghost use Rattle.model.specs.Content.{Problem};
-ghost use Rattle.refutations.specs.inner.Instances.{is_instance};
+ghost use Rattle.model.specs.inner.Instances.{is_instance};
 ghost use Rattle.vertices.specs.Kinds.{kind_view};
 ghost use Rattle.vertices.specs.declared.kind.Kind as kinds;
 ghost use Rattle.axioms.specs.inner.GatheredViews.{problem_of};

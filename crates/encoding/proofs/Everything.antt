@@ -18,9 +18,9 @@ use Rattle.model.proofs.Lists.{pairs_rest}
 use Rattle.model.proofs.Owners.{candidate_at-is}
 use Rattle.model.proofs.Same.{text-same, text-refl, class-same, class-refl, version-same, version-refl}
 use Rattle.model.proofs.Places.{place_of, got_in}
-use Rattle.refutations.specs.Causes.{entries_of, table_of_owner}
+use Rattle.model.specs.Causes.{entries_of, table_of_owner}
 use Rattle.std.proofs.lemmas.List.Elements.{Contains-append_cases, Contains-append_right, Contains-append_left}
-use Rattle.refutations.proofs.Named.{dep_owner, entry-is, to_entry, row_of}
+use Rattle.model.proofs.Named.{dep_owner, entry-is, to_entry, row_of}
 use Rattle.numbering.proofs.Each.{from_if, in_all, only_one, to_all, to_if}
 use Rattle.numbering.proofs.ClassOrder.{IsOlder}
 use Rattle.numbering.proofs.Distinct.{of_rows, older_differ}

@@ -11,12 +11,12 @@ use Rattle.model.specs.Vertices.{in_class, in_that_class, dep_classes, dep_space
 use Rattle.model.specs.Axioms.{HasEntry, IsOwner, IsVertex, is_lower}
 use Rattle.model.proofs.Lists.{in_first, in_rest, to_filter, to_map}
 use Rattle.model.proofs.Same.{both, class-refl}
-use Rattle.refutations.specs.Causes.{Cause, of_root, of_need, of_target, of_feature, of_list, of_ask, of_entry}
-use Rattle.refutations.specs.Causes.{of_enabling, of_asking, of_newest, of_weak, same_entry, enables, is_needed}
-use Rattle.refutations.specs.Causes.{dependency_at, has_class, has_entry, some_entry, lists_feature, is_overtaken}
-use Rattle.refutations.specs.Causes.{is_weak_on, is_cause}
-use Rattle.refutations.proofs.Named.{entry-same, passes-is, dep_owner, has_entry-is, some_entry-is, class-is}
-use Rattle.refutations.proofs.Named.{feature-is}
+use Rattle.model.specs.Causes.{Cause, of_root, of_need, of_target, of_feature, of_list, of_ask, of_entry}
+use Rattle.model.specs.Causes.{of_enabling, of_asking, of_newest, of_weak, same_entry, enables, is_needed}
+use Rattle.model.specs.Causes.{dependency_at, has_class, has_entry, some_entry, lists_feature, is_overtaken}
+use Rattle.model.specs.Causes.{is_weak_on, is_cause}
+use Rattle.model.proofs.Named.{entry-same, passes-is, dep_owner, has_entry-is, some_entry-is, class-is}
+use Rattle.model.proofs.Named.{feature-is}
 use Rattle.numbering.specs.Pairs.{Pair, owner_pair, first_pair}
 use Rattle.encoding.specs.Everywhere.{IsPair}
 

@@ -16,7 +16,7 @@ use Rattle.model.proofs.Flat.{to_flat, in_flat}
 use Rattle.model.proofs.Mapped.{flat_last}
 use Rattle.model.proofs.Places.{some_at}
 use Rattle.model.proofs.Members.{all_in}
-use Rattle.refutations.specs.Causes.{Cause, is_cause}
+use Rattle.model.specs.Causes.{Cause, is_cause}
 use Rattle.std.proofs.lemmas.List.Elements.{Contains-append_cases, Contains-append_right, Contains-append_left}
 use Rattle.std.proofs.lemmas.List.Elements.{Contains-push_cases}
 use Rattle.numbering.specs.inner.Assignments.{state_at}

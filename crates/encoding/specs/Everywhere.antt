@@ -4,7 +4,7 @@ use Rattle.std.specs.List.{AllPairs, flat_map}
 use Rattle.model.specs.Content.{Problem}
 use Rattle.model.specs.Vertices.{Vertex, space}
 use Rattle.model.specs.Axioms.{IsVertex}
-use Rattle.refutations.specs.Causes.{Cause, is_cause}
+use Rattle.model.specs.Causes.{Cause, is_cause}
 use Rattle.numbering.specs.Numberings.{Numbering}
 use Rattle.numbering.specs.Pairs.{AreAllCauses, AreCausesAt, AreGiven, Given, Pair, first_pair}
 

@@ -20,7 +20,7 @@ mod whole;
 ghost use Rattle.std.specs.Prelude.{◌≡◌, ◌↔◌, ℕ, Some, slice_get, true};
 ghost use Rattle.model.specs.Content.{Problem};
 ghost use Rattle.model.specs.Vertices as model;
-ghost use Rattle.refutations.specs.Causes.{Cause, is_cause};
+ghost use Rattle.model.specs.Causes.{Cause, is_cause};
 ghost use Rattle.numbering.specs.Numberings.{IsNumbering, Numbering, number_in};
 ghost use Rattle.encoding.specs.Everywhere.{ComesOnce};
 

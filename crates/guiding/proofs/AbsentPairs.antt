@@ -2,8 +2,8 @@
 use Rattle.std.proofs.Common.{◌≡◌, [], ◌∷◌, Contains, refl, ap, inl, inr}
 use Rattle.model.specs.Vertices.{Owner, the_root, version_of, Vertex, dep, absent, in_class}
 use Rattle.model.proofs.Lists.{in_cons, in_none}
-use Rattle.refutations.specs.Causes.{Cause, of_root, of_need, of_target, of_feature, of_list, of_ask, of_entry}
-use Rattle.refutations.specs.Causes.{of_enabling, of_asking, of_newest, of_weak}
+use Rattle.model.specs.Causes.{Cause, of_root, of_need, of_target, of_feature, of_list, of_ask, of_entry}
+use Rattle.model.specs.Causes.{of_enabling, of_asking, of_newest, of_weak}
 use Rattle.numbering.specs.Pairs.{Pair, owner_pair, pairs_of}
 
 owner_present : (o : Owner) (v : Vertex) → owner_pair o ≡ (v, absent) → ⊥

@@ -19,8 +19,8 @@ use Rattle.model.specs.Content.{Problem}
 use Rattle.model.specs.Axioms.{Term}
 use Rattle.model.specs.Derivation.{states_at}
 use Rattle.model.specs.Vertices.{State, Vertex, space}
-use Rattle.refutations.specs.Causes.{Cause, is_cause, kind_of, of_root, terms_of_cause}
-use Rattle.refutations.proofs.CauseLaws.{cause_instance}
+use Rattle.model.specs.Causes.{Cause, is_cause, kind_of, of_root, terms_of_cause}
+use Rattle.model.proofs.CauseLaws.{cause_instance}
 use Rattle.numbering.specs.inner.Assignments.{state_at}
 use Rattle.numbering.specs.Numberings.{Numbering, Says, members_at}
 use Rattle.numbering.specs.Pairs.{AreGiven, AreOfPair, Given, IsGivenAt, Pair, pairs_of}

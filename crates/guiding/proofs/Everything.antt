@@ -11,11 +11,11 @@ use Rattle.model.proofs.Lists.{in_first, in_rest, in_filter, to_map}
 use Rattle.model.proofs.Flat.{to_flat}
 use Rattle.model.proofs.Same.{class-same, vertex-same, vertex-refl}
 use Rattle.model.proofs.Spaces.{class_in}
-use Rattle.refutations.specs.Causes.{Cause, of_feature, of_asking, dependency_at, has_entry, is_cause, owners}
-use Rattle.refutations.specs.inner.Listed.{causes, numbers_of}
+use Rattle.model.specs.Causes.{Cause, of_feature, of_asking, dependency_at, has_entry, is_cause, owners}
+use Rattle.model.specs.inner.Listed.{causes, numbers_of}
 use Rattle.std.proofs.lemmas.List.Elements.{Contains-append_right, Contains-append_left}
-use Rattle.refutations.proofs.Listing.{in_numbers, listed-is, name_there, once_distinct, to_once}
-use Rattle.refutations.proofs.Named.{to_feature, to_has_entry, to_owners, to_passes}
+use Rattle.model.proofs.Listing.{in_numbers, listed-is, name_there, once_distinct, to_once}
+use Rattle.model.proofs.Named.{to_feature, to_has_entry, to_owners, to_passes}
 use Rattle.guiding.specs.inner.Everything.{dependency_vertices, named, package_vertices, spoken_by, vertices}
 
 module _ (q : Problem) where

@@ -22,11 +22,11 @@ use Rattle.model.specs.Derivation.{states_at}
 use Rattle.model.proofs.Same.{both, state-same, state-refl, vertex-other, vertex-refl}
 use Rattle.model.proofs.Lists.{in_cons, in_first, in_none, in_rest, pairs_first, pairs_rest}
 use Rattle.model.proofs.Places.{some_at, got_in}
-use Rattle.refutations.specs.Causes.{Cause, of_root, of_need, of_target, of_feature, of_list, of_ask, of_entry}
-use Rattle.refutations.specs.Causes.{of_enabling, of_asking, of_newest, of_weak, same_entry, dependency_at}
-use Rattle.refutations.specs.Causes.{has_class, some_entry, lists_feature, is_overtaken, is_weak_on, is_cause}
-use Rattle.refutations.specs.Causes.{terms_with, terms_of_cause}
-use Rattle.refutations.proofs.Named.{passes-is}
+use Rattle.model.specs.Causes.{Cause, of_root, of_need, of_target, of_feature, of_list, of_ask, of_entry}
+use Rattle.model.specs.Causes.{of_enabling, of_asking, of_newest, of_weak, same_entry, dependency_at}
+use Rattle.model.specs.Causes.{has_class, some_entry, lists_feature, is_overtaken, is_weak_on, is_cause}
+use Rattle.model.specs.Causes.{terms_with, terms_of_cause}
+use Rattle.model.proofs.Named.{passes-is}
 use Rattle.numbering.specs.Numberings.{Numbering, Says, members_at}
 use Rattle.numbering.specs.Pairs.{Pair, first_pair, owner_pair, pairs_of}
 use Rattle.numbering.specs.inner.Assignments.{state_at}

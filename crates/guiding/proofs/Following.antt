@@ -21,8 +21,8 @@ use Rattle.model.specs.Vertices.{State, Vertex, absent, space}
 use Rattle.model.specs.WellFormed.{IsCatalogue}
 use Rattle.model.proofs.Lists.{pairs_first, pairs_rest}
 use Rattle.model.proofs.Places.{got_in}
-use Rattle.refutations.specs.Causes.{kind_of, terms_of_cause}
-use Rattle.refutations.proofs.CauseLaws.{cause_instance}
+use Rattle.model.specs.Causes.{kind_of, terms_of_cause}
+use Rattle.model.proofs.CauseLaws.{cause_instance}
 use Rattle.numbering.specs.inner.Assignments.{IsOf, state_at}
 use Rattle.numbering.specs.Numberings.{IsGrown, Numbering}
 use Rattle.numbering.specs.Pairs.{AreOfPair, Given, Pair}

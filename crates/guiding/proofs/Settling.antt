@@ -21,7 +21,7 @@ use Rattle.model.specs.Content.{Problem}
 use Rattle.model.specs.Vertices.{State, Vertex, absent, space}
 use Rattle.model.specs.inner.Search.{IsUnbroken}
 use Rattle.model.proofs.Lists.{in_cons, in_first, in_none, in_rest}
-use Rattle.refutations.specs.Causes.{Cause, is_cause, of_root, terms_of_cause}
+use Rattle.model.specs.Causes.{Cause, is_cause, of_root, terms_of_cause}
 use Rattle.numbering.specs.inner.Assignments.{IsAdded, IsSettled, state_at, state_if, state_of}
 use Rattle.numbering.specs.inner.Finals.{IsAtRest, IsFinal}
 use Rattle.numbering.specs.Numberings.{IsNumbering, Numbering, Says, number_in}

@@ -13,8 +13,8 @@ use Rattle.propagation.proofs.SetLemmas.{size_every}
 use Rattle.propagation.proofs.Soundness.{trail_grown}
 use Rattle.model.specs.Content.{Content}
 use Rattle.model.specs.Vertices.{Vertex, absent, root}
-use Rattle.refutations.specs.Causes.{is_cause, kind_of, of_root, terms_of_cause}
-use Rattle.refutations.proofs.CauseLaws.{cause_instance}
+use Rattle.model.specs.Causes.{is_cause, kind_of, of_root, terms_of_cause}
+use Rattle.model.proofs.CauseLaws.{cause_instance}
 use Rattle.numbering.specs.inner.Assignments.{state_at}
 use Rattle.numbering.specs.inner.KnownProblem.{problem}
 use Rattle.numbering.specs.Numberings.{Numbering}

@@ -13,8 +13,8 @@ use Rattle.model.specs.Content.{Problem}
 use Rattle.model.specs.Summary.{Dependency, Entry, feature, dependency, dependency_feature, weak_feature, same_text}
 use Rattle.model.proofs.Same.{text-refl, text-same}
 use Rattle.model.specs.Vertices.{owner_brings, version_of}
-use Rattle.refutations.specs.Causes.{enables, entries_of, is_unmatched}
-use Rattle.refutations.specs.inner.Instances.{enabled_unmatched, first_place}
+use Rattle.model.specs.Causes.{enables, entries_of, is_unmatched}
+use Rattle.model.specs.inner.Instances.{enabled_unmatched, first_place}
 use Rattle.lookups.specs.inner.ByName.{AreGone, Names, PutsEntry, PutsGone, PutsNew, entry_named, is_gone}
 use Rattle.lookups.specs.inner.ByName.{least_enabled, lesser, named, number_enabled}
 use Rattle.lookups.proofs.Places.{from_start}

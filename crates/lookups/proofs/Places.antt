@@ -6,8 +6,8 @@ use Rattle.std.specs.Prelude.{◌&&◌}
 use Rattle.model.specs.Summary.{Dependency}
 use Rattle.model.specs.Content.{Problem}
 use Rattle.model.specs.Vertices.{Owner, owner_brings}
-use Rattle.refutations.specs.Causes.{is_needed, is_unmatched}
-use Rattle.refutations.specs.inner.Instances.{first_place, needed_unmatched}
+use Rattle.model.specs.Causes.{is_needed, is_unmatched}
+use Rattle.model.specs.inner.Instances.{first_place, needed_unmatched}
 use Rattle.lookups.specs.inner.Needs.{place_from, is_needed_unmatched}
 
 from_is : {A : Type 0} (test : A → Bool) (n : ℕ) (xs : List A)

@@ -12,7 +12,7 @@ use Rattle.std.proofs.lemmas.Cmp.{tied_itself, alike_right}
 use Rattle.model.specs.Vertices.{State, same_state, has_state}
 use Rattle.model.proofs.Same.{state-same}
 use Rattle.model.proofs.Tests.{beside}
-use Rattle.refutations.proofs.InOrder.{sorted_pairs}
+use Rattle.model.proofs.InOrder.{sorted_pairs}
 use Rattle.vertices.specs.Orders.{state_cmp}
 use Rattle.vertices.proofs.OrderLaws.{state_total}
 use Rattle.catalogue.proofs.Found.{less-other, greater-other}

@@ -6,7 +6,7 @@ use Rattle.std.proofs.lemmas.List.Folds.{list_any-append, list_all-append}
 use Rattle.model.specs.Derivation.{both}
 use Rattle.model.specs.Vertices.{State, same_state, has_state}
 use Rattle.model.proofs.Same.{state-same}
-use Rattle.refutations.specs.inner.Terms.{is_within, same_states}
+use Rattle.model.specs.inner.Terms.{is_within, same_states}
 use Rattle.lookups.specs.inner.Sets.{all_in_either, all_in_both, all_shared_in}
 
 -- ---- tests

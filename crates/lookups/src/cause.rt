@@ -1,7 +1,7 @@
 //! What gives rise to an instance of an axiom, by names and numbers.
 
 ghost use Rattle.std.specs.Prelude.{◌≡◌};
-ghost use Rattle.refutations.specs.Causes.{kind_of};
+ghost use Rattle.model.specs.Causes.{kind_of};
 ghost use Rattle.vertices.specs.Kinds.{kind_view};
 ghost use Rattle.lookups.specs.inner.CauseViews.{cause_view};
 

@@ -3,7 +3,7 @@
 ghost use Rattle.std.specs.Prelude.{◌≡◌, ◌&&◌, option_map};
 ghost use Rattle.std.specs.List.{list_all};
 ghost use Rattle.model.specs.Derivation.{states_at};
-ghost use Rattle.refutations.specs.inner.Terms.{agree, same_at, same_terms};
+ghost use Rattle.model.specs.inner.Terms.{agree, same_at, same_terms};
 ghost use Rattle.lookups.specs.inner.TermViews.{term_views};
 ghost use Rattle.vertices.specs.inner.RefViews.{vertex_ref_view};
 

@@ -4,7 +4,7 @@
 ghost use Rattle.std.specs.Prelude.{◌≡◌, option_map, IfOk};
 ghost use Rattle.std.specs.Option.{option_or};
 ghost use Rattle.semver.specs.Identifiers.{parts_of};
-ghost use Rattle.refutations.specs.inner.Instances.{enabled_unmatched, enabling_in, number_read};
+ghost use Rattle.model.specs.inner.Instances.{enabled_unmatched, enabling_in, number_read};
 ghost use Rattle.lookups.specs.inner.CauseViews.{cause_view};
 ghost use Rattle.lookups.specs.inner.TermViews.{term_views};
 ghost use Rattle.lookups.specs.inner.NumbersViews.{problem_of};

@@ -4,7 +4,7 @@ ghost use Rattle.std.specs.Prelude.{◌≡◌, IfOk, OnOk};
 ghost use Rattle.semver.specs.Identifiers.{parts_of};
 ghost use Rattle.features.specs.Views.{dependency_view, dependency_views};
 ghost use Rattle.features.specs.EntryViews.{entry_view, entry_views};
-ghost use Rattle.refutations.specs.inner.Instances.{enabled_unmatched};
+ghost use Rattle.model.specs.inner.Instances.{enabled_unmatched};
 ghost use Rattle.lookups.specs.inner.ByName.{AreGone, PutsGone, least_enabled, lesser, named, number_enabled};
 ghost use Rattle.lookups.specs.inner.NumbersViews.{problem_of};
 ghost use Rattle.lookups.specs.inner.Views.{problem_view};

@@ -4,7 +4,7 @@ ghost use Rattle.std.specs.Prelude.{◌≡◌, option_map, IfOk, OnOk};
 ghost use Rattle.std.specs.List.{find};
 ghost use Rattle.semver.specs.Identifiers.{parts_of};
 ghost use Rattle.features.specs.EntryViews.{entry_view, entry_views};
-ghost use Rattle.refutations.specs.Causes.{enables, entries_of};
+ghost use Rattle.model.specs.Causes.{enables, entries_of};
 ghost use Rattle.lookups.specs.inner.ByName.{AreFirst, PutsEntry, entry_named};
 ghost use Rattle.lookups.specs.inner.NumbersViews.{problem_of};
 

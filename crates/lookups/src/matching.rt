@@ -6,7 +6,7 @@ ghost use Rattle.semver.specs.EvalViews.{matches_views};
 ghost use Rattle.semver.specs.Identifiers.{parts_of};
 ghost use Rattle.features.specs.Views.{dependency_view, requirement_view};
 ghost use Rattle.classes.specs.Classes.{class_view};
-ghost use Rattle.refutations.specs.Causes.{has_class, is_unmatched};
+ghost use Rattle.model.specs.Causes.{has_class, is_unmatched};
 ghost use Rattle.lookups.specs.inner.Matching.{is_lacking, is_left};
 ghost use Rattle.lookups.specs.inner.Ranges.{AreRising};
 ghost use Rattle.lookups.specs.inner.Views.{problem_view};

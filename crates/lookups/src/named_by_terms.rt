@@ -1,9 +1,9 @@
 //! What terms name: the first of each sort among them.
 
 ghost use Rattle.std.specs.Prelude.{◌≡◌, option_map};
-ghost use Rattle.refutations.specs.inner.Instances.{first_read, other_read, read_term, owner_read, version_read};
-ghost use Rattle.refutations.specs.inner.Instances.{dep_read};
-ghost use Rattle.refutations.specs.inner.Instances.{led_read, feature_read, on_read, off_read, ask_read};
+ghost use Rattle.model.specs.inner.Instances.{first_read, other_read, read_term, owner_read, version_read};
+ghost use Rattle.model.specs.inner.Instances.{dep_read};
+ghost use Rattle.model.specs.inner.Instances.{led_read, feature_read, on_read, off_read, ask_read};
 ghost use Rattle.lookups.specs.inner.TermViews.{term_view, term_views};
 ghost use Rattle.vertices.specs.inner.RefViews.{owner_ref_view};
 ghost use Rattle.lookups.specs.inner.NamedByTerms.{version_seen, dep_seen, led_seen, other_seen, feature_seen};

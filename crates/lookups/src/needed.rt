@@ -3,7 +3,7 @@
 ghost use Rattle.std.specs.Prelude.{◌≡◌, option_map, IfOk};
 ghost use Rattle.std.specs.Option.{option_or};
 ghost use Rattle.features.specs.Views.{dependency_view, dependency_views};
-ghost use Rattle.refutations.specs.inner.Instances.{need_in, needed_unmatched, number_read};
+ghost use Rattle.model.specs.inner.Instances.{need_in, needed_unmatched, number_read};
 ghost use Rattle.vertices.specs.inner.RefViews.{owner_ref_view};
 ghost use Rattle.lookups.specs.inner.Views.{problem_view};
 ghost use Rattle.lookups.specs.inner.CauseViews.{cause_view};

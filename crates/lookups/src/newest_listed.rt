@@ -2,7 +2,7 @@
 
 ghost use Rattle.std.specs.Prelude.{◌≡◌, option_map};
 ghost use Rattle.classes.specs.Classes.{class_view};
-ghost use Rattle.refutations.specs.inner.Instances.{newest_in, newest_of};
+ghost use Rattle.model.specs.inner.Instances.{newest_in, newest_of};
 ghost use Rattle.vertices.specs.inner.RefViews.{owner_ref_view};
 ghost use Rattle.lookups.specs.inner.CauseViews.{cause_view};
 ghost use Rattle.lookups.specs.inner.TermViews.{term_views};

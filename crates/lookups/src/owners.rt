@@ -5,7 +5,7 @@ ghost use Rattle.semver.specs.Identifiers.{parts_of};
 ghost use Rattle.features.specs.Views.{dependency_view, dependency_views, brings_view};
 ghost use Rattle.features.specs.EntryViews.{entry_views};
 ghost use Rattle.model.specs.Vertices.{owner_brings};
-ghost use Rattle.refutations.specs.Causes.{dependency_at, entries_of, is_needed};
+ghost use Rattle.model.specs.Causes.{dependency_at, entries_of, is_needed};
 ghost use Rattle.lookups.specs.inner.Views.{problem_view};
 ghost use Rattle.vertices.specs.inner.RefViews.{owner_ref_view};
 

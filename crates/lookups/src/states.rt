@@ -6,8 +6,8 @@ ghost use Rattle.std.specs.List.Sorted.{IsStrictlySortedBy};
 ghost use Rattle.model.specs.Derivation.{both};
 ghost use Rattle.model.specs.Vertices.{has_state};
 ghost use Rattle.vertices.specs.Orders.{state_cmp};
-ghost use Rattle.refutations.specs.inner.Instances.{first_of};
-ghost use Rattle.refutations.specs.inner.Terms.{is_within, same_states};
+ghost use Rattle.model.specs.inner.Instances.{first_of};
+ghost use Rattle.model.specs.inner.Terms.{is_within, same_states};
 ghost use Rattle.lookups.specs.inner.Sets.{all_in_either, all_in_both, all_shared_in};
 ghost use Rattle.vertices.specs.inner.RefViews.{state_ref_view, state_ref_views};
 

@@ -6,7 +6,7 @@
 //! union, intersection and equality are decided without memory.
 //!
 //! A layer above may rely on this: `same_terms` says whether two lists of terms say the same of each vertex, in
-//! whichever order they stand; a `Cause` names what an instance comes from, and its view is the cause of `refutations`.
+//! whichever order they stand; a `Cause` names what an instance comes from, and its view is the cause of `model`.
 //! The search's encoding takes causes from here too.
 
 use crate::states::StateSet;

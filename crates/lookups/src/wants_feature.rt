@@ -2,7 +2,7 @@
 
 ghost use Rattle.std.specs.Prelude.{◌≡◌, option_map};
 ghost use Rattle.std.specs.Option.{option_or};
-ghost use Rattle.refutations.specs.inner.Instances.{ask_in, list_in};
+ghost use Rattle.model.specs.inner.Instances.{ask_in, list_in};
 ghost use Rattle.lookups.specs.inner.CauseViews.{cause_view};
 ghost use Rattle.lookups.specs.inner.TermViews.{term_views};
 

@@ -11,3 +11,7 @@ pub mod Invalid
 pub mod Tables
 pub mod Preference
 pub mod Gathered
+pub mod Pieces
+pub mod Kinds
+pub mod Thirteen
+pub mod Listed

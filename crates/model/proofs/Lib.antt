@@ -20,7 +20,6 @@ pub mod Accepted
 pub mod Reached
 pub mod Cut
 pub mod CutDown
-pub mod Examples
 pub mod One
 pub mod Kept
 pub mod Vertices
@@ -36,3 +35,18 @@ pub mod Verdicts
 pub mod Utf8
 pub mod Flat
 pub mod Flips
+pub mod Bools
+pub mod Sets
+pub mod Named
+pub mod CauseLaws
+pub mod Reading
+pub mod FoundTerms
+pub mod FoundNeeds
+pub mod FoundFeatures
+pub mod Found
+pub mod Accepting
+pub mod Listing
+pub mod InOrder
+pub mod AnyOrder
+pub mod NoFull
+pub mod Examples

@@ -14,5 +14,7 @@ pub mod Walk
 pub mod Vertices
 pub mod Axioms
 pub mod Derivation
+pub mod Selected
+pub mod Causes
 pub mod Optional
 pub mod inner

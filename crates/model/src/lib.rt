@@ -15,9 +15,13 @@
 //! A layer above may rely on these laws of every problem that is a catalogue (`IsCatalogue`): each name once, its
 //! versions rising by precedence, each feature table knowing its features.
 //!
+//! `refutations` has the laws of what a checker does with the terms of a step.
+//!
 //! A law is a function that does nothing: its contract is the statement, and its body shows that the statement needs no
 //! code.
 #![tactic(auto)]
+
+pub mod refutations;
 
 ghost use Rattle.std.specs.Prelude.{◌≡◌, ◌≢◌, ◌↔◌, ◌⊎◌, Bool, true, false, ℕ, List, Option, Ok, Contains};
 ghost use Rattle.std.specs.List.{All, AllPairs};

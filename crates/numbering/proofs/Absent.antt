@@ -15,10 +15,10 @@ use Rattle.model.specs.Vertices.{has_state, same_vertex, owner_brings, dep_space
 use Rattle.model.specs.Axioms.{Term, owner_holds, Kind, IsInstance}
 use Rattle.model.specs.Derivation as model
 use Rattle.model.proofs.Same.{vertex-same}
-use Rattle.refutations.specs.Causes.{Cause, of_root, of_need, of_target, of_feature, of_list, of_ask, of_entry}
-use Rattle.refutations.specs.Causes.{of_enabling, of_asking, of_newest, of_weak, terms_with, terms_of_cause}
-use Rattle.refutations.specs.Causes.{dependency_at}
-use Rattle.refutations.proofs.CauseLaws.{instance_cause}
+use Rattle.model.specs.Causes.{Cause, of_root, of_need, of_target, of_feature, of_list, of_ask, of_entry}
+use Rattle.model.specs.Causes.{of_enabling, of_asking, of_newest, of_weak, terms_with, terms_of_cause}
+use Rattle.model.specs.Causes.{dependency_at}
+use Rattle.model.proofs.CauseLaws.{instance_cause}
 use Rattle.numbering.specs.Numberings.{Numbering, members_at, Says}
 use Rattle.numbering.specs.inner.Absences.{has_absent, OneAbsent, HasZero, OneZero}
 use Rattle.numbering.proofs.Places.{has_map}

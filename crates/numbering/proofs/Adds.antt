@@ -9,7 +9,7 @@ use Rattle.model.specs.Vertices.{Vertex, same_vertex}
 use Rattle.model.specs.Axioms.{Term}
 use Rattle.model.proofs.Lists.{to_map}
 use Rattle.model.proofs.Places.{got_in}
-use Rattle.refutations.specs.Causes.{Cause, terms_of_cause}
+use Rattle.model.specs.Causes.{Cause, terms_of_cause}
 use Rattle.numbering.specs.GivenViews.{cause_views}
 use Rattle.lookups.specs.inner.CauseViews.{cause_view}
 use Rattle.numbering.specs.Numberings.{AddsOnly, Numbering, with_vertex}

@@ -9,7 +9,7 @@ use Rattle.std.proofs.lemmas.Option.{same_Some}
 use Rattle.semver.specs.Parse.{Parts}
 use Rattle.model.specs.Content.{Problem}
 use Rattle.model.specs.Summary.{Dependency, Entry, feature, dependency, dependency_feature, weak_feature, same_text}
-use Rattle.refutations.specs.Causes.{Cause}
+use Rattle.model.specs.Causes.{Cause}
 use Rattle.numbering.specs.inner.Called.{PutsCalled, called_in, called_so, named_by, numbered_from, numbered_view}
 use Rattle.numbering.specs.inner.CausesAt.{each_from, entry_if}
 use Rattle.numbering.specs.inner.Lists.{Puts}

@@ -17,14 +17,14 @@ use Rattle.model.proofs.Flat.{in_flat, to_flat}
 use Rattle.model.proofs.Lists.{in_none, in_cons, in_first, in_rest, in_filter, in_map, to_map, any_of, to_any}
 use Rattle.model.proofs.Lists.{pairs_none}
 use Rattle.model.proofs.Same.{both, text-same, text-refl, class-same}
-use Rattle.refutations.specs.Causes.{Cause, of_root, of_need, of_target, of_feature, of_list, of_ask, of_entry}
-use Rattle.refutations.specs.Causes.{of_enabling, of_asking, of_newest, of_weak, same_entry, enables, is_needed}
-use Rattle.refutations.specs.Causes.{dependency_at, has_class, has_entry, some_entry, lists_feature, root_asks_for}
-use Rattle.refutations.specs.Causes.{same_pair, is_overtaken, is_weak_on, entries_of, table_of_owner, is_cause}
-use Rattle.refutations.specs.inner.Listed.{classes_at, classes_if}
+use Rattle.model.specs.Causes.{Cause, of_root, of_need, of_target, of_feature, of_list, of_ask, of_entry}
+use Rattle.model.specs.Causes.{of_enabling, of_asking, of_newest, of_weak, same_entry, enables, is_needed}
+use Rattle.model.specs.Causes.{dependency_at, has_class, has_entry, some_entry, lists_feature, root_asks_for}
+use Rattle.model.specs.Causes.{same_pair, is_overtaken, is_weak_on, entries_of, table_of_owner, is_cause}
+use Rattle.model.specs.inner.Listed.{classes_at, classes_if}
 use Rattle.std.proofs.lemmas.List.Elements.{Contains-append_cases, Contains-append_right, Contains-append_left}
-use Rattle.refutations.proofs.Named.{entry-refl, passes-is, to_passes, has_entry-is, to_entry, row_of, class-is}
-use Rattle.refutations.proofs.Named.{to_class, to_lists, to_feature, to_some_entry}
+use Rattle.model.proofs.Named.{entry-refl, passes-is, to_passes, has_entry-is, to_entry, row_of, class-is}
+use Rattle.model.proofs.Named.{to_class, to_lists, to_feature, to_some_entry}
 use Rattle.numbering.specs.Pairs.{Pair, owner_pair, first_pair, AreCausesAt, IsCauseAt}
 use Rattle.numbering.specs.inner.CausesAt.{each_from, need_if, turned_if, weak_if, needs_of, entry_if, entry_causes}
 use Rattle.numbering.specs.inner.CausesAt.{feature_causes, version_causes, root_asked, newest_if, overtaken_if}

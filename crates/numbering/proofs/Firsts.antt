@@ -11,11 +11,11 @@ use Rattle.model.specs.Axioms.{Term, HasOneOf, IsBroken, owner_holds}
 use Rattle.model.proofs.Same.{both}
 use Rattle.model.proofs.Spaces.{state_from}
 use Rattle.model.proofs.Lists.{in_cons, in_none}
-use Rattle.refutations.specs.Causes.{Cause, of_root, of_need, of_target, of_feature, of_list, of_ask, of_entry}
-use Rattle.refutations.specs.Causes.{of_enabling, of_asking, of_newest, of_weak, same_entry, dependency_at}
-use Rattle.refutations.specs.Causes.{has_class, some_entry, lists_feature, is_overtaken, is_weak_on, is_cause}
-use Rattle.refutations.specs.Causes.{terms_with, terms_of_cause}
-use Rattle.refutations.proofs.Named.{passes-is}
+use Rattle.model.specs.Causes.{Cause, of_root, of_need, of_target, of_feature, of_list, of_ask, of_entry}
+use Rattle.model.specs.Causes.{of_enabling, of_asking, of_newest, of_weak, same_entry, dependency_at}
+use Rattle.model.specs.Causes.{has_class, some_entry, lists_feature, is_overtaken, is_weak_on, is_cause}
+use Rattle.model.specs.Causes.{terms_with, terms_of_cause}
+use Rattle.model.proofs.Named.{passes-is}
 use Rattle.numbering.specs.Pairs.{Pair, owner_pair, first_pair, pairs_of}
 
 module _ (q : Problem) (state : Vertex → State) where

@@ -3,7 +3,7 @@ use Rattle.std.proofs.Common.{◌≡◌, ℕ, List, [], ◌∷◌, ◌++◌, map
 use Rattle.std.specs.Prelude.{codes}
 use Rattle.std.proofs.lemmas.List.{append_assoc, map-append, append-nil}
 use Rattle.model.specs.Summary.{Dependency, asked_of_target}
-use Rattle.refutations.specs.Causes.{Cause}
+use Rattle.model.specs.Causes.{Cause}
 
 pub own_list : (f : List ℕ → Cause) (d : Dependency)
     → map f d.features ++ cond d.default_features (f (codes "default") ∷ []) [] ≡ map f (asked_of_target d)

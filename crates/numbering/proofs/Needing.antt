@@ -19,7 +19,7 @@ use Rattle.model.proofs.Lists.{pairs_first, pairs_rest, pairs_one, in_first, in_
 use Rattle.model.proofs.Places.{place_of, get_more}
 use Rattle.model.proofs.Members.{all_in}
 use Rattle.model.proofs.Accepted.{all-push}
-use Rattle.refutations.specs.Causes.{Cause, kind_of, terms_of_cause}
+use Rattle.model.specs.Causes.{Cause, kind_of, terms_of_cause}
 use Rattle.numbering.specs.Numberings.{Numbering, IsNumbering, IsGrown, members_at, Says, with_vertex}
 use Rattle.numbering.specs.Pairs.{Given, AreGiven}
 use Rattle.numbering.proofs.Saying.{one_place}

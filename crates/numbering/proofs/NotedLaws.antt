@@ -21,7 +21,7 @@ use Rattle.model.specs.Vertices.{Owner, dep, dep_classes, in_class, same_class, 
 use Rattle.model.proofs.Flat.{to_flat}
 use Rattle.model.proofs.Lists.{in_cons, in_first, in_none, in_rest, to_filter}
 use Rattle.model.proofs.Same.{both, class-refl, class-same, owner-refl, owner-same, text-refl, text-same}
-use Rattle.refutations.specs.Causes.{dependency_at}
+use Rattle.model.specs.Causes.{dependency_at}
 use Rattle.vertices.specs.inner.RefViews.{owner_ref_view}
 use Rattle.numbering.specs.inner.AskedFor.{AreBeside, HasBeside, HasOther, IsNoted, IsNotedFor, KeepsListed, KeepsNoted}
 use Rattle.numbering.specs.inner.AskedFor.{NotedKey, is_key, listed_at, listed_if, noted_beside, noted_views, same_noted_key}

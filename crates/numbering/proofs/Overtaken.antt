@@ -13,10 +13,10 @@ use Rattle.model.specs.Axioms.{IsVertex, is_lower}
 use Rattle.model.proofs.Flat.{in_flat, to_flat}
 use Rattle.model.proofs.Lists.{in_none, in_cons, in_first, in_rest, to_map}
 use Rattle.model.proofs.Same.{both, text-refl, text-same}
-use Rattle.refutations.specs.Causes.{Cause, of_root, of_need, of_target, of_feature, of_list, of_ask, of_entry}
-use Rattle.refutations.specs.Causes.{of_enabling, of_asking, of_newest, of_weak, dependency_at, has_class, lists_feature}
-use Rattle.refutations.specs.Causes.{is_cause}
-use Rattle.refutations.proofs.Named.{class-is, passes-is}
+use Rattle.model.specs.Causes.{Cause, of_root, of_need, of_target, of_feature, of_list, of_ask, of_entry}
+use Rattle.model.specs.Causes.{of_enabling, of_asking, of_newest, of_weak, dependency_at, has_class, lists_feature}
+use Rattle.model.specs.Causes.{is_cause}
+use Rattle.model.proofs.Named.{class-is, passes-is}
 use Rattle.numbering.specs.inner.AskedFor.{AreBeside, HasOther, IsNoted, asked_causes, asked_leads, both_of, listed_at}
 use Rattle.numbering.specs.inner.AskedFor.{newest_of}
 use Rattle.numbering.specs.inner.CausesAt.{alone_causes, root_asked}

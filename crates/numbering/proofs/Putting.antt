@@ -12,7 +12,7 @@ use Rattle.model.specs.Vertices.{classes_of, matching, dep_classes, dep_space, c
 use Rattle.model.specs.Axioms.{Term, IsVertex}
 use Rattle.model.proofs.Lists.{all_first, all_rest}
 use Rattle.model.proofs.Vertices.{instance_vertices}
-use Rattle.refutations.proofs.CauseLaws.{cause_instance}
+use Rattle.model.proofs.CauseLaws.{cause_instance}
 use Rattle.manifest.specs.Manifests.{ManifestView}
 use Rattle.catalogue.specs.Problems.{problem_in}
 use Rattle.catalogue.specs.Ranks.{records}
@@ -27,7 +27,7 @@ use Rattle.std.proofs.Math.Seq.{take-suc}
 use Rattle.version_sets.specs.Sets.{Members}
 use Rattle.terms.specs.declared.term.Term as Numbered
 use Rattle.model.specs.WellFormed.{IsCatalogue}
-use Rattle.refutations.specs.Causes.{Cause, is_cause, kind_of, terms_of_cause}
+use Rattle.model.specs.Causes.{Cause, is_cause, kind_of, terms_of_cause}
 use Rattle.numbering.specs.Numberings.{IsNumbering, with_vertex}
 use Rattle.numbering.specs.inner.TestedTerms.{tested_view, tested_views}
 use Rattle.numbering.specs.declared.tested_terms.TestedTerm as code

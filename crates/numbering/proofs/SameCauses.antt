@@ -6,11 +6,11 @@ use Rattle.std.proofs.lemmas.List.{append_assoc}
 use Rattle.indexmap.specs.IndexSet.{insert_key}
 use Rattle.model.specs.Summary.{same_text}
 use Rattle.model.proofs.Lists.{in_first, in_rest, any_of, to_any}
-use Rattle.refutations.specs.Causes as model
-use Rattle.refutations.specs.Causes.{same_entry}
-use Rattle.refutations.specs.inner.Listed.{same_cause}
+use Rattle.model.specs.Causes as model
+use Rattle.model.specs.Causes.{same_entry}
+use Rattle.model.specs.inner.Listed.{same_cause}
 use Rattle.std.proofs.lemmas.List.Elements.{Contains-append_right, Contains-append_left, Contains-push_cases}
-use Rattle.refutations.proofs.Listing.{cause-same, cause-refl}
+use Rattle.model.proofs.Listing.{cause-same, cause-refl}
 use Rattle.numbering.specs.GivenViews.{cause_views}
 use Rattle.lookups.specs.inner.CauseViews.{cause_view}
 use Rattle.numbering.specs.inner.CausesAt.{with_cause, with_causes}

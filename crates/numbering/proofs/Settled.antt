@@ -16,8 +16,8 @@ use Rattle.model.specs.inner.Search.{IsUnbroken}
 use Rattle.model.proofs.Same.{vertex-same}
 use Rattle.model.proofs.Spaces.{state_in, absent_in_space}
 use Rattle.model.proofs.Places.{some_at, got_in}
-use Rattle.refutations.specs.Causes.{terms_of_cause}
-use Rattle.refutations.proofs.CauseLaws.{instance_cause}
+use Rattle.model.specs.Causes.{terms_of_cause}
+use Rattle.model.proofs.CauseLaws.{instance_cause}
 use Rattle.numbering.specs.Numberings.{Numbering, IsNumbering, number_in, members_at, Says}
 use Rattle.numbering.specs.inner.Assignments.{state_if, state_of, IsSettled}
 use Rattle.numbering.proofs.Places.{has_map, number_at, number_of}

@@ -18,8 +18,8 @@ use Rattle.catalogue.specs.Problems.{problem_in}
 use Rattle.catalogue.specs.Stores.{CatalogueView, candidates_at}
 use Rattle.classes.specs.Classes.{class_view}
 use Rattle.classes.specs.declared.class.Class as code
-use Rattle.refutations.specs.Causes.{dependency_at}
-use Rattle.refutations.specs.inner.Listed.{classes_at, classes_if}
+use Rattle.model.specs.Causes.{dependency_at}
+use Rattle.model.specs.inner.Listed.{classes_at, classes_if}
 use Rattle.numbering.specs.inner.Assignments.{state_at}
 use Rattle.lookups.specs.inner.Ranges.{is_of}
 use Rattle.numbering.proofs.Tested.{map_map, states_here}

@@ -22,7 +22,7 @@ use Rattle.catalogue.specs.Problems.{problem_in}
 use Rattle.catalogue.specs.Stores.{CatalogueView, candidates_at}
 use Rattle.catalogue.specs.Views.{Said, said, said_by}
 use Rattle.catalogue.specs.declared.candidate.Candidate as stored
-use Rattle.refutations.specs.inner.Listed.{classes_at, classes_if}
+use Rattle.model.specs.inner.Listed.{classes_at, classes_if}
 use Rattle.numbering.specs.Numberings.{members_at}
 use Rattle.numbering.specs.inner.TestedTerms.{is_chosen, is_class}
 use Rattle.lookups.specs.inner.Matching.{is_left}

@@ -5,7 +5,7 @@ use Rattle.terms.specs.Terms.{terms_view}
 use Rattle.terms.specs.declared.term.Term.{Term}
 use Rattle.vertices.specs.Kinds.{kind_view}
 use Rattle.vertices.specs.declared.kind.Kind.{Kind}
-use Rattle.refutations.specs.Causes as causes
+use Rattle.model.specs.Causes as causes
 use Rattle.numbering.specs.Pairs.{Given}
 use Rattle.lookups.specs.inner.CauseViews.{cause_view}
 use Rattle.lookups.specs.declared.cause.Cause.{Cause}

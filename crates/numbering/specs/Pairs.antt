@@ -8,8 +8,8 @@ use Rattle.model.specs.Selection.{class_of}
 use Rattle.model.specs.Vertices.{Owner, the_root, version_of, Vertex, root, pkg, dep, feat, ask, State, absent, present}
 use Rattle.model.specs.Vertices.{version, in_class}
 use Rattle.model.specs.Axioms.{Kind}
-use Rattle.refutations.specs.Causes.{Cause, of_root, of_need, of_target, of_feature, of_list, of_ask, of_entry}
-use Rattle.refutations.specs.Causes.{of_enabling, of_asking, of_newest, of_weak, kind_of, is_cause, terms_of_cause}
+use Rattle.model.specs.Causes.{Cause, of_root, of_need, of_target, of_feature, of_list, of_ask, of_entry}
+use Rattle.model.specs.Causes.{of_enabling, of_asking, of_newest, of_weak, kind_of, is_cause, terms_of_cause}
 use Rattle.numbering.specs.inner.CausesAt.{first_causes}
 use Rattle.numbering.specs.Numberings.{Numbering, Says}
 

@@ -12,7 +12,7 @@ ghost use Rattle.model.specs.Summary as model;
 ghost use Rattle.model.specs.Summary.{same_text};
 ghost use Rattle.model.specs.Vertices as model_vertices;
 ghost use Rattle.model.specs.Vertices.{feat, owner_brings, same_vertex};
-ghost use Rattle.refutations.specs.Causes.{of_asking, of_enabling, table_of_owner};
+ghost use Rattle.model.specs.Causes.{of_asking, of_enabling, table_of_owner};
 ghost use Rattle.numbering.specs.inner.Called.{AreOfVersion, called_so, named_by, numbered_from, numbered_views};
 ghost use Rattle.numbering.specs.GivenViews.{cause_views};
 ghost use Rattle.numbering.specs.inner.CausesAt.{each_from, entry_causes, entry_if, feature_causes, need_if, turned_if};

@@ -4,7 +4,7 @@ ghost use Rattle.std.specs.Prelude.{◌≡◌, ◌++◌, ◌∷◌, [], Some, On
 ghost use Rattle.classes.specs.Classes.{class_view};
 ghost use Rattle.features.specs.Views.{dependency_view};
 ghost use Rattle.model.specs.Summary.{asked_of_target};
-ghost use Rattle.refutations.specs.Causes.{dependency_at, of_list};
+ghost use Rattle.model.specs.Causes.{dependency_at, of_list};
 ghost use Rattle.numbering.specs.inner.Asked.{asked_so, features_of};
 ghost use Rattle.numbering.specs.GivenViews.{cause_views};
 ghost use Rattle.numbering.specs.inner.AskedFor.{asked_leads, noted_views};

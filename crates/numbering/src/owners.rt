@@ -3,7 +3,7 @@
 ghost use Rattle.std.specs.Prelude.{◌≡◌, option_map};
 ghost use Rattle.features.specs.Views.{dependency_view, dependency_views, brings_view};
 ghost use Rattle.model.specs.Vertices.{owner_brings};
-ghost use Rattle.refutations.specs.Causes.{dependency_at};
+ghost use Rattle.model.specs.Causes.{dependency_at};
 ghost use Rattle.numbering.specs.inner.KnownProblem.{problem};
 ghost use Rattle.vertices.specs.inner.RefViews.{owner_ref_view};
 

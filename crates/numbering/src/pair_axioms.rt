@@ -4,8 +4,8 @@ ghost use Rattle.std.specs.Prelude.{◌≡◌, ◌<◌, ◌++◌, ◌∷◌, [],
 ghost use Rattle.std.specs.List.{AllByRecursion};
 ghost use Rattle.model.specs.Axioms.{IsVertex};
 ghost use Rattle.model.specs.Vertices.{Vertex, space};
-ghost use Rattle.refutations.specs.Causes as causes;
-ghost use Rattle.refutations.specs.Causes.{is_cause};
+ghost use Rattle.model.specs.Causes as causes;
+ghost use Rattle.model.specs.Causes.{is_cause};
 ghost use Rattle.numbering.specs.inner.AskedFor.{IsGivenNext, IsNoted, KeepsNoted};
 ghost use Rattle.numbering.specs.inner.Assignments.{state_at};
 ghost use Rattle.numbering.specs.GivenViews.{cause_views, given_views};

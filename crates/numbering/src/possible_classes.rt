@@ -4,7 +4,7 @@ ghost use Rattle.std.specs.Prelude.{◌≡◌, ◌∷◌, suc, true, false, leng
 ghost use Rattle.classes.specs.Classes.{class_view};
 ghost use Rattle.features.specs.Views.{dependency_view};
 ghost use Rattle.model.specs.Vertices.{dep_classes, same_class};
-ghost use Rattle.refutations.specs.inner.Listed.{classes_at};
+ghost use Rattle.model.specs.inner.Listed.{classes_at};
 ghost use Rattle.numbering.specs.inner.KnownProblem.{problem};
 ghost use Rattle.numbering.specs.inner.TestedTerms.{is_class, lone_view};
 ghost use Rattle.vertices.specs.inner.RefViews.{owner_ref_view};

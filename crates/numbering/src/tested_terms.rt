@@ -12,8 +12,8 @@ ghost use Rattle.model.specs.Axioms.{absent_or, at, matched, owner_holds, versio
 ghost use Rattle.model.specs.Selection.{class_of};
 ghost use Rattle.model.specs.Summary.{has_feature};
 ghost use Rattle.model.specs.Vertices as model;
-ghost use Rattle.refutations.specs.Causes as causes;
-ghost use Rattle.refutations.specs.Causes.{dependency_at, feature_holds, terms_of_cause};
+ghost use Rattle.model.specs.Causes as causes;
+ghost use Rattle.model.specs.Causes.{dependency_at, feature_holds, terms_of_cause};
 ghost use Rattle.lookups.specs.inner.CauseViews.{cause_view};
 ghost use Rattle.numbering.specs.inner.KnownProblem.{problem};
 ghost use Rattle.numbering.specs.inner.TestedTerms.{states_view, tested, tested_view, tested_views, all_tested};

@@ -8,7 +8,7 @@ use Rattle.model.specs.Vertices.{Vertex, State, same_state, has_state, same_vert
 use Rattle.model.specs.Axioms.{Term, at, is_full}
 use Rattle.model.specs.Derivation.{states_at, SameStates, SameAt, SameTerms, both, union_at, meet_at, combined_at}
 use Rattle.model.specs.Derivation.{IsCombined}
-use Rattle.refutations.proofs.InOrder.{same_at-back}
+use Rattle.model.proofs.InOrder.{same_at-back}
 use Rattle.solver.proofs.Sets.{has_both}
 
 pub like_trans : (o p r : Option (List State)) → SameAt o p → SameAt p r → SameAt o r

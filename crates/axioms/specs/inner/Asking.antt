@@ -5,7 +5,7 @@ use Rattle.std.specs.List.{list_any}
 use Rattle.model.specs.Summary.{Entry, Table, entries_at}
 use Rattle.model.specs.Content.{Problem, candidates_of}
 use Rattle.model.specs.Vertices.{version_of}
-use Rattle.refutations.specs.Causes.{asks_for, entries_or_none, owner_asks}
+use Rattle.model.specs.Causes.{asks_for, entries_or_none, owner_asks}
 
 -- an entry of the row is `d/g` or `d?/g`
 unfoldable pub row_names : List ℕ → List ℕ → List ℕ × List Entry → Bool

@@ -3,7 +3,7 @@ use Rattle.std.specs.Prelude.{◌≡◌, ◌||◌, ℕ, Bool, List}
 use Rattle.std.specs.HashSet.{HashSet, contains_by}
 use Rattle.std.specs.List.{list_any}
 use Rattle.model.specs.Summary.{Entry, Table, feature, dependency, dependency_feature, weak_feature, entries_at}
-use Rattle.refutations.specs.Causes.{entries_or_none, same_entry}
+use Rattle.model.specs.Causes.{entries_or_none, same_entry}
 use Rattle.axioms.specs.declared.entries.Named.{Named}
 use Rattle.axioms.specs.declared.entries.Named.TheVariants.{Feature, Dependency, Asking, Weak}
 

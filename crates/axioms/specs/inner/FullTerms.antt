@@ -7,7 +7,7 @@ use Rattle.model.specs.Content.{Problem}
 use Rattle.model.specs.Selection.{class_of}
 use Rattle.model.specs.Vertices.{Vertex, root, pkg, dep, feat, ask, State, present, version, in_class, has_state}
 use Rattle.model.specs.Vertices.{class_candidates, dep_classes}
-use Rattle.refutations.specs.Causes.{dependency_at}
+use Rattle.model.specs.Causes.{dependency_at}
 
 abbrev pub classes_if : Problem → Option Dependency → List State
 classes_if q None = []

@@ -5,7 +5,7 @@ use Rattle.std.specs.List.{list_any}
 use Rattle.semver.specs.Parse.{Parts}
 use Rattle.model.specs.Summary.{Summary, Dependency, asked_of_target, has_feature, same_text}
 use Rattle.model.specs.Content.{Problem, brings_of, candidate_at, candidates_of}
-use Rattle.refutations.specs.Causes.{owner_asks, owners}
+use Rattle.model.specs.Causes.{owner_asks, owners}
 use Rattle.catalogue.specs.Stores.{CatalogueView, rows_by_name}
 use Rattle.axioms.specs.inner.Asking.{row_may_ask, row_names}
 

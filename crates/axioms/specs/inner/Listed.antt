@@ -7,7 +7,7 @@ use Rattle.model.specs.Content.{Problem}
 use Rattle.model.specs.Optional.{passes}
 use Rattle.model.specs.Summary.{asked_of_target, entries_at, same_text}
 use Rattle.model.specs.Vertices.{Owner}
-use Rattle.refutations.specs.Causes.{dependency_at, entries_or_none, same_entry, table_of_owner}
+use Rattle.model.specs.Causes.{dependency_at, entries_or_none, same_entry, table_of_owner}
 use Rattle.vertices.specs.inner.RefViews.{owner_ref_view}
 use Rattle.vertices.specs.declared.vertex.OwnerRef.{OwnerRef}
 use Rattle.lookups.specs.inner.Numbers.{AreRight, IsOf, IsOfRow, Row, same_ref, same_row}

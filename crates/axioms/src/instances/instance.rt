@@ -2,7 +2,7 @@
 
 ghost use Rattle.std.specs.Prelude.{◌≡◌, IfOk};
 ghost use Rattle.model.specs.Axioms.{without_full};
-ghost use Rattle.refutations.specs.Causes.{terms_of_cause};
+ghost use Rattle.model.specs.Causes.{terms_of_cause};
 ghost use Rattle.axioms.specs.inner.KeptViews.{problem_of};
 ghost use Rattle.lookups.specs.inner.CauseViews.{cause_view};
 ghost use Rattle.lookups.specs.inner.TermViews.{term_views};

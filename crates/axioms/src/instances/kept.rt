@@ -87,7 +87,7 @@ impl<'a> Kept<'a> {
     ghost use Rattle.model.specs.Axioms.{absent_or, matched, versions_that};
     ghost use Rattle.model.specs.Vertices.{dep_classes};
     ghost use Rattle.std.specs.Prelude.{not, true, false};
-    ghost use Rattle.refutations.specs.Causes.{has_class};
+    ghost use Rattle.model.specs.Causes.{has_class};
     ghost use Rattle.axioms.specs.inner.Keeping.{AreAll, all_releases, is_had, lacking_in};
     ghost use Rattle.axioms.specs.inner.KeptViews.{problem_of};
 

@@ -3,8 +3,8 @@
 ghost use Rattle.std.specs.Prelude.{◌≡◌, IfOk};
 ghost use Rattle.semver.specs.Identifiers.{parts_of};
 ghost use Rattle.classes.specs.Classes.{class_view};
-ghost use Rattle.refutations.specs.Causes as causes;
-ghost use Rattle.refutations.specs.Causes.{terms_of_cause};
+ghost use Rattle.model.specs.Causes as causes;
+ghost use Rattle.model.specs.Causes.{terms_of_cause};
 ghost use Rattle.vertices.specs.inner.RefViews.{owner_ref_view};
 ghost use Rattle.lookups.specs.inner.Views.{problem_view};
 ghost use Rattle.lookups.specs.inner.TermViews.{term_views};

@@ -1,6 +1,6 @@
 -- What the check answers, as the function that it follows says it.
 use Rattle.std.specs.Prelude.{Option, Some, None}
-use Rattle.refutations.specs.inner.Checks as model
+use Rattle.model.specs.inner.Checks as model
 use Rattle.checker.specs.declared.outcome.Check.{Check}
 use Rattle.checker.specs.declared.outcome.Check.TheVariants.{Proves, Refused}
 use Rattle.checker.specs.declared.outcome.Reason.{Reason}

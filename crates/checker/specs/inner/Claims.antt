@@ -3,7 +3,7 @@ use Rattle.std.specs.Prelude.{◌<◌, List, length, Bool}
 use Rattle.model.specs.Content.{Problem}
 use Rattle.model.specs.Vertices.{Vertex}
 use Rattle.model.specs.Axioms.{Term}
-use Rattle.refutations.specs.inner.Terms.{is_combination}
+use Rattle.model.specs.inner.Terms.{is_combination}
 use Rattle.axioms.specs.inner.GatheredViews.{problem_of}
 use Rattle.derivations.specs.inner.Tables.{TablesView, terms_at, vertex_at}
 use Rattle.checker.specs.inner.Combinations.{fits, fits_or_said}

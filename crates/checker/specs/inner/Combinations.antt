@@ -6,7 +6,7 @@ use Rattle.model.specs.Content.{Problem}
 use Rattle.model.specs.Vertices.{Vertex}
 use Rattle.model.specs.Axioms.{Term}
 use Rattle.model.specs.Derivation.{states_at, combined_at}
-use Rattle.refutations.specs.inner.Terms.{same_at, speaks_of}
+use Rattle.model.specs.inner.Terms.{same_at, speaks_of}
 
 module _ (q : Problem) (v : Vertex) (a b ts : List Term) where
   abbrev pub fits : Term → Bool

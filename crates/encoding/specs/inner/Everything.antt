@@ -9,7 +9,7 @@ use Rattle.model.specs.Content.{Candidate, Problem, candidates_of}
 use Rattle.model.specs.Selection.{class_of}
 use Rattle.model.specs.Vertices.{Owner, the_root, version_of, Vertex, root, pkg, dep, feat, ask}
 use Rattle.model.specs.Vertices.{owner_brings}
-use Rattle.refutations.specs.Causes.{entries_or_none}
+use Rattle.model.specs.Causes.{entries_or_none}
 use Rattle.numbering.specs.inner.CausesAt.{each_from}
 
 abbrev pub versions : List Candidate → List Parts

@@ -3,8 +3,8 @@ use Rattle.std.specs.Prelude.{List, [], ◌∷◌, ◌++◌, map, ℕ}
 use Rattle.std.specs.List.{flat_map}
 use Rattle.model.specs.Content.{Candidate, Problem, candidates_of}
 use Rattle.model.specs.Vertices.{Owner, Vertex, root, pkg, dep, feat, ask, classes_of, same_vertex}
-use Rattle.refutations.specs.Causes.{Cause, of_feature, of_asking, owners}
-use Rattle.refutations.specs.inner.Listed.{causes, numbers_of, once}
+use Rattle.model.specs.Causes.{Cause, of_feature, of_asking, owners}
+use Rattle.model.specs.inner.Listed.{causes, numbers_of, once}
 
 -- the vertex of a feature or of an ask, which have an instance each
 abbrev pub spoken_by : Cause → List Vertex

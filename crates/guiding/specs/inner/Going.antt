@@ -6,7 +6,7 @@ use Rattle.incompatibilities.specs.declared.origin.Origin.TheVariants.{Axiom}
 use Rattle.terms.specs.Terms.{TermView}
 use Rattle.model.specs.Content.{Problem}
 use Rattle.model.specs.Axioms.{Term}
-use Rattle.refutations.specs.Causes.{Cause, of_root, terms_of_cause}
+use Rattle.model.specs.Causes.{Cause, of_root, terms_of_cause}
 use Rattle.numbering.specs.Numberings.{IsGrown, IsNumbering, Numbering, Says}
 use Rattle.numbering.proofs.Needing.{grows_on, says_more}
 use Rattle.std.specs.List.{AllPairs}

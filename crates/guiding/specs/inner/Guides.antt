@@ -17,7 +17,7 @@ use Rattle.model.specs.inner.Assignment.{Assigns}
 use Rattle.model.specs.Axioms.{IsInstance, Kind, Term}
 use Rattle.vertices.specs.Kinds.{kind_number}
 use Rattle.model.specs.WellFormed.{IsCatalogue}
-use Rattle.refutations.specs.Causes.{Cause, is_cause, of_root, terms_of_cause}
+use Rattle.model.specs.Causes.{Cause, is_cause, of_root, terms_of_cause}
 use Rattle.model.specs.inner.Search.{IsUnbroken}
 use Rattle.numbering.specs.inner.Assignments.{IsOf, state_at, state_of}
 use Rattle.numbering.specs.inner.KnownProblem.{KnowsDefault, problem}

@@ -8,7 +8,7 @@ use Rattle.features.specs.EntryViews.{entry_view}
 use Rattle.features.specs.declared.entry.Entry as code
 use Rattle.model.specs.Content.{Problem}
 use Rattle.model.specs.Summary.{Dependency, Entry, feature, dependency, dependency_feature, weak_feature, same_text}
-use Rattle.refutations.specs.Causes.{enables, is_unmatched}
+use Rattle.model.specs.Causes.{enables, is_unmatched}
 use Rattle.lookups.specs.inner.Needs.{place_from}
 
 abbrev pub Names : Type 0 → Type 0 → Type 0

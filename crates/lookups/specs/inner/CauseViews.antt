@@ -2,7 +2,7 @@
 use Rattle.semver.specs.Identifiers.{parts_of}
 use Rattle.classes.specs.Classes.{class_view}
 use Rattle.features.specs.EntryViews.{entry_view}
-use Rattle.refutations.specs.Causes as model
+use Rattle.model.specs.Causes as model
 use Rattle.vertices.specs.inner.RefViews.{owner_ref_view}
 use Rattle.lookups.specs.declared.cause.Cause.{Cause}
 use Rattle.lookups.specs.declared.cause.Cause.TheVariants as cause

@@ -5,7 +5,7 @@ use Rattle.semver.specs.Parse.{Parts}
 use Rattle.model.specs.Summary.{Dependency}
 use Rattle.model.specs.Content.{Problem}
 use Rattle.model.specs.Vertices.{Owner, version_of}
-use Rattle.refutations.specs.Causes.{Cause, of_enabling, enables, is_needed, is_unmatched, dependency_at, entries_of}
+use Rattle.model.specs.Causes.{Cause, of_enabling, enables, is_needed, is_unmatched, dependency_at, entries_of}
 
 unfoldable pub is_needed_unmatched : Problem → Owner → Dependency → Bool
 is_needed_unmatched q o d = is_needed o d && is_unmatched q d

@@ -8,8 +8,8 @@ use Rattle.features.specs.declared.entry.Entry as code
 use Rattle.model.specs.Content.{Problem}
 use Rattle.model.specs.Summary.{entries_at}
 use Rattle.model.specs.Vertices.{Owner, the_root, version_of, owner_brings, same_owner}
-use Rattle.refutations.specs.Causes.{entries_or_none, table_of_owner}
-use Rattle.refutations.specs.inner.Instances.{needed_unmatched, enabled_unmatched}
+use Rattle.model.specs.Causes.{entries_or_none, table_of_owner}
+use Rattle.model.specs.inner.Instances.{needed_unmatched, enabled_unmatched}
 use Rattle.vertices.specs.inner.RefViews.{owner_ref_view}
 use Rattle.vertices.specs.declared.vertex.OwnerRef.{OwnerRef}
 use Rattle.lookups.specs.inner.ByName.{AreFirst, AreGone, Names}

@@ -13,7 +13,7 @@ use Rattle.model.specs.Content.{Problem}
 use Rattle.model.specs.Selection.{Class}
 use Rattle.model.specs.Axioms.{is_lower}
 use Rattle.model.specs.Vertices.{Owner, Vertex, dep, dep_classes, State, in_class, same_class, same_owner}
-use Rattle.refutations.specs.Causes.{Cause, dependency_at, is_cause, of_newest}
+use Rattle.model.specs.Causes.{Cause, dependency_at, is_cause, of_newest}
 use Rattle.vertices.specs.inner.RefViews.{owner_ref_view}
 use Rattle.numbering.specs.inner.CausesAt.{alone_causes, causes_at}
 use Rattle.numbering.specs.inner.Indexed.{OwnerKey, same_owner_key}

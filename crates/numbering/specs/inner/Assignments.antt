@@ -5,7 +5,7 @@ use Rattle.incompatibilities.specs.Stores.{EntryView, entry, terms_of}
 use Rattle.model.specs.Content.{Problem, Content}
 use Rattle.model.specs.Vertices.{Vertex, State, absent, space}
 use Rattle.model.specs.inner.Assignment.{Assigns}
-use Rattle.refutations.specs.Causes.{Cause, is_cause, terms_of_cause}
+use Rattle.model.specs.Causes.{Cause, is_cause, terms_of_cause}
 use Rattle.numbering.specs.Numberings.{Numbering, number_in, Says}
 use Rattle.numbering.specs.Pairs.{Pair, pairs_of}
 

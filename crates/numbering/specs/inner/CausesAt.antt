@@ -10,10 +10,10 @@ use Rattle.model.specs.Selection.{Class, class_of}
 use Rattle.model.specs.Vertices.{Owner, the_root, version_of, Vertex, root, pkg, dep, feat, ask, State, absent, present}
 use Rattle.model.specs.Vertices.{version, in_class, same_vertex, owner_brings, dep_classes}
 use Rattle.model.specs.Axioms.{is_lower}
-use Rattle.refutations.specs.Causes.{Cause, of_root, of_need, of_target, of_feature, of_list, of_ask, of_entry}
-use Rattle.refutations.specs.Causes.{of_enabling, of_asking, of_newest, of_weak, is_needed, dependency_at}
-use Rattle.refutations.specs.Causes.{entries_of, has_class, table_of_owner}
-use Rattle.refutations.specs.inner.Listed.{classes_at, same_cause}
+use Rattle.model.specs.Causes.{Cause, of_root, of_need, of_target, of_feature, of_list, of_ask, of_entry}
+use Rattle.model.specs.Causes.{of_enabling, of_asking, of_newest, of_weak, is_needed, dependency_at}
+use Rattle.model.specs.Causes.{entries_of, has_class, table_of_owner}
+use Rattle.model.specs.inner.Listed.{classes_at, same_cause}
 use Rattle.numbering.specs.inner.OnPackage.{is_other}
 
 -- what each of a list gives, with its number; the first has the number n

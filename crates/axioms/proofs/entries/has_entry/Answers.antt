@@ -5,7 +5,7 @@ use Rattle.model.proofs.Mapped.{any-map}
 use borrow.Author.Tests.{tests}
 use Rattle.features.specs.EntryViews.{entry_view}
 use Rattle.features.specs.declared.entry.Entry.{Entry}
-use Rattle.refutations.specs.Causes.{same_entry}
+use Rattle.model.specs.Causes.{same_entry}
 use Rattle.axioms.specs.inner.Entries.{named_view}
 use Rattle.axioms.proofs.entries.has_entry.Goals as goal
 

@@ -1,5 +1,5 @@
 use Rattle.std.proofs.Common.{◌∙◌, ap}
-use Rattle.refutations.specs.Causes.{same_entry}
+use Rattle.model.specs.Causes.{same_entry}
 use Rattle.axioms.specs.inner.Entries.{named_view}
 use Rattle.axioms.proofs.EntryLemmas.{named_same}
 use Rattle.axioms.proofs.entries.is_same.Goals as goal

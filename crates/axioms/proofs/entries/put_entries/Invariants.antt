@@ -1,7 +1,7 @@
 use Rattle.std.proofs.Common.{◌≡◌, ◌||◌, take}
 use Rattle.std.specs.List.{list_any}
 use Rattle.features.specs.EntryViews.{entry_views}
-use Rattle.refutations.specs.Causes.{same_entry}
+use Rattle.model.specs.Causes.{same_entry}
 use Rattle.axioms.specs.inner.Entries.{has_named, named_view}
 use Rattle.axioms.specs.declared.entries.Named.{Named}
 use Rattle.axioms.proofs.entries.put_entries.Given as goal

@@ -4,7 +4,7 @@ use Rattle.std.specs.declared.alloc.Global.{Global}
 use Rattle.features.specs.EntryViews.{entry_views}
 use Rattle.features.specs.inner.Tables.{rows_of}
 use Rattle.features.specs.declared.entry.Entry.{Entry}
-use Rattle.refutations.specs.Causes.{same_entry}
+use Rattle.model.specs.Causes.{same_entry}
 use Rattle.axioms.specs.inner.Entries.{has_named, named_view, row_has}
 use Rattle.axioms.proofs.EntryLemmas.{row_has_is}
 use Rattle.axioms.proofs.GatherLemmas.{one_more}

@@ -1,7 +1,7 @@
 use Rattle.std.proofs.Common.{◌≡◌, ◌||◌, ℕ, List, take}
 use Rattle.std.specs.List.{list_any}
 use Rattle.features.specs.EntryViews.{entry_views}
-use Rattle.refutations.specs.Causes.{asks_for}
+use Rattle.model.specs.Causes.{asks_for}
 use Rattle.axioms.specs.inner.Pairs.{has_pair}
 use Rattle.axioms.proofs.gathering.put_entries.Given as goal
 

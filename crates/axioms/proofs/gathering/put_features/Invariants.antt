@@ -1,6 +1,6 @@
 use Rattle.std.proofs.Common.{◌≡◌, ◌||◌, ℕ, List, take}
 use Rattle.std.specs.List.{list_any}
-use Rattle.refutations.specs.Causes.{same_pair}
+use Rattle.model.specs.Causes.{same_pair}
 use Rattle.axioms.specs.inner.Pairs.{has_pair}
 use Rattle.axioms.proofs.gathering.put_features.Given as goal
 

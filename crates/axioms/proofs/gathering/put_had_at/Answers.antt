@@ -2,7 +2,7 @@ use Rattle.std.proofs.Common.{◌∙◌, ◌&&◌, ap, sym, option_map}
 use Rattle.std.specs.Borrow.{Bor}
 use Rattle.std.specs.List.{list_any}
 use Rattle.model.specs.Summary.{Summary, has_feature, same_text}
-use Rattle.refutations.specs.Causes.{same_pair}
+use Rattle.model.specs.Causes.{same_pair}
 use Rattle.catalogue.specs.Stores.{candidates_at}
 use Rattle.catalogue.specs.Views.{said_by}
 use Rattle.catalogue.specs.declared.candidate.Candidate.{Candidate}

@@ -1,7 +1,7 @@
 use Rattle.std.proofs.Common.{◌∙◌, ◌||◌, ap, codes}
 use Rattle.std.specs.List.{list_any}
 use Rattle.features.specs.Views.{dependency_view}
-use Rattle.refutations.specs.Causes.{same_pair}
+use Rattle.model.specs.Causes.{same_pair}
 use Rattle.axioms.proofs.GatherLemmas.{adds_both, adds_so, list_default, list_plain}
 use Rattle.axioms.proofs.gathering.put_list.Goals as goal
 

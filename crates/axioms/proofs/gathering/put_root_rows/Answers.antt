@@ -4,7 +4,7 @@ use Rattle.std.specs.declared.alloc.Global.{Global}
 use Rattle.features.specs.EntryViews.{entry_views}
 use Rattle.features.specs.inner.Tables.{rows_of}
 use Rattle.features.specs.declared.entry.Entry.{Entry}
-use Rattle.refutations.specs.Causes.{asks_for}
+use Rattle.model.specs.Causes.{asks_for}
 use Rattle.axioms.specs.inner.Asking.{row_names}
 use Rattle.axioms.specs.inner.Pairs.{has_pair}
 use Rattle.axioms.proofs.GatherLemmas.{names_is, one_more}

@@ -1,7 +1,7 @@
 use Rattle.std.proofs.Common.{ap, ◌∙◌}
 use Rattle.std.specs.List.{list_any}
 use Rattle.features.specs.EntryViews.{entry_views}
-use Rattle.refutations.specs.Causes.{same_entry}
+use Rattle.model.specs.Causes.{same_entry}
 use Rattle.vertices.specs.declared.vertex.OwnerRef.TheVariants.{Version}
 use Rattle.lookups.specs.inner.Numbers.{Row}
 use Rattle.lookups.proofs.Kept.{put_of_row}

@@ -2,7 +2,7 @@ use Rattle.std.proofs.Common.{sym, ap, ◌∙◌}
 use Rattle.semver.specs.Identifiers.{parts_of}
 use Rattle.features.specs.Views.{brings_view, summary_view}
 use Rattle.model.specs.Vertices.{owner_brings, version_of}
-use Rattle.refutations.specs.Causes.{table_of_owner}
+use Rattle.model.specs.Causes.{table_of_owner}
 use Rattle.vertices.specs.declared.vertex.OwnerRef.TheVariants.{Version}
 use Rattle.axioms.specs.inner.Entries.{named_view}
 use Rattle.axioms.specs.inner.GatheredViews.{problem_of}

@@ -1,5 +1,5 @@
 use Rattle.std.proofs.Common.{◌∙◌, ◌-◌, length, sym, ap}
-use Rattle.refutations.specs.inner.Checks.{end_if}
+use Rattle.model.specs.inner.Checks.{end_if}
 use Rattle.checker.proofs.StepLaws.{end_first}
 use Rattle.checker.proofs.checking.end_of.Goals as goal
 

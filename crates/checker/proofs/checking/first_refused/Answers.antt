@@ -1,5 +1,5 @@
 use Rattle.std.proofs.Common.{◌≡◌, ◌∙◌, Some, ap, false, rules, sym, take}
-use Rattle.refutations.specs.inner.Checks.{is_step}
+use Rattle.model.specs.inner.Checks.{is_step}
 use Rattle.axioms.specs.inner.GatheredViews.{problem_of}
 use Rattle.derivations.specs.inner.Tables.{step_at, steps_at, terms_at}
 use Rattle.checker.specs.inner.Ready.{tables_of}

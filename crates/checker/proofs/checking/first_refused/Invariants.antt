@@ -1,5 +1,5 @@
 use Rattle.std.proofs.Common.{◌≡◌, [], take, drop}
-use Rattle.refutations.specs.inner.Checks.{first_refused}
+use Rattle.model.specs.inner.Checks.{first_refused}
 use Rattle.axioms.specs.inner.GatheredViews.{problem_of}
 use Rattle.derivations.specs.inner.Tables.{steps_at}
 use Rattle.checker.specs.inner.Ready.{tables_of}

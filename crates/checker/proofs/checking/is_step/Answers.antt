@@ -1,5 +1,5 @@
 use Rattle.std.proofs.Common.{◌∙◌, ap}
-use Rattle.refutations.specs.inner.Terms.{is_combination}
+use Rattle.model.specs.inner.Terms.{is_combination}
 use Rattle.axioms.specs.inner.GatheredViews.{problem_of}
 use Rattle.derivations.specs.inner.Tables.{terms_at, vertex_at}
 use Rattle.checker.specs.inner.Ready.{tables_of}

@@ -1,6 +1,6 @@
 use Rattle.std.proofs.Common.{◌∙◌, sym, ap₂, subst}
 use Rattle.std.proofs.lemmas.Result.{IfOk-weaker}
-use Rattle.refutations.specs.inner.Checks.{refused_step}
+use Rattle.model.specs.inner.Checks.{refused_step}
 use Rattle.derivations.specs.inner.Derivations.{IsDerivation}
 use Rattle.checker.proofs.StepLaws.{each_step}
 use Rattle.checker.proofs.checking.refused_step_of.Goals as goal

@@ -4,7 +4,7 @@ use Rattle.classes.specs.Classes.{class_view}
 use Rattle.features.specs.Views.{dependency_view}
 use Rattle.axioms.specs.inner.GatheredViews.{catalogue_of, manifest_of, problem_of}
 use Rattle.model.specs.Vertices.{pkg}
-use Rattle.refutations.specs.Causes.{dependency_at}
+use Rattle.model.specs.Causes.{dependency_at}
 use Rattle.vertices.specs.inner.RefViews.{owner_ref_view}
 use Rattle.vertices.specs.Views.{owner_view, vertex_view}
 use Rattle.checker.proofs.SpaceLaws.{classed, classes_all_in}

@@ -6,7 +6,7 @@ use Rattle.semver.specs.Identifiers.{parts_of}
 use Rattle.features.specs.EntryViews.{entry_views}
 use Rattle.features.specs.Views.{dependency_views, summary_view}
 use Rattle.model.specs.Summary.{Entry, entries_at}
-use Rattle.refutations.specs.Causes.{entries_or_none}
+use Rattle.model.specs.Causes.{entries_or_none}
 use Rattle.numbering.specs.inner.KnownProblem.{problem}
 use Rattle.encoding.specs.inner.Everything.{feature_of, of_entry}
 use Rattle.encoding.specs.Views.{vertex_views}

@@ -2,7 +2,7 @@ use Rattle.std.proofs.Common.{rules, ◌∙◌, sym}
 use Rattle.std.proofs.lemmas.Iterator.{YieldsList-from_slice}
 use Rattle.std.proofs.lemmas.Iterator.Search.{all_from_yields_List}
 use borrow.Author.Tests.{tests}
-use Rattle.refutations.specs.inner.Terms.{agree}
+use Rattle.model.specs.inner.Terms.{agree}
 use Rattle.lookups.specs.inner.TermViews.{term_view, term_views}
 use Rattle.lookups.specs.declared.term.Term.{Term}
 use Rattle.lookups.proofs.SetLaws.{all_map}

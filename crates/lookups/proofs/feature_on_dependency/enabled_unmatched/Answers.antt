@@ -2,7 +2,7 @@ use Rattle.std.proofs.Common.{◌∙◌, ap, sym}
 use Rattle.semver.specs.Identifiers.{parts_of}
 use Rattle.lookups.specs.inner.NumbersViews.{problem_of}
 use Rattle.lookups.specs.inner.Numbers.{IsEnabled, Row}
-use Rattle.refutations.specs.inner.Instances.{enabled_unmatched}
+use Rattle.model.specs.inner.Instances.{enabled_unmatched}
 use Rattle.vertices.specs.declared.vertex.OwnerRef.TheVariants.{Version}
 use Rattle.lookups.proofs.Kept.{put_of_row}
 use Rattle.lookups.proofs.feature_on_dependency.enabled_unmatched.Goals as goal

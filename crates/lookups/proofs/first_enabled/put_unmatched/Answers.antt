@@ -1,7 +1,7 @@
 use Rattle.std.proofs.Common.{sym, ap, ◌∙◌}
 use Rattle.std.proofs.lemmas.Result.{on_ok_weaker}
 use Rattle.features.specs.Views.{dependency_view}
-use Rattle.refutations.specs.Causes.{is_unmatched}
+use Rattle.model.specs.Causes.{is_unmatched}
 use Rattle.lookups.specs.inner.Views.{problem_view}
 use Rattle.lookups.proofs.ByNames.{gone_kept, gone_put}
 use Rattle.lookups.proofs.first_enabled.put_unmatched.Goals as goal

@@ -1,7 +1,7 @@
 use Rattle.std.proofs.Common.{◌≡◌, drop}
 use Rattle.std.specs.List.{find}
 use Rattle.features.specs.EntryViews.{entry_views}
-use Rattle.refutations.specs.Causes.{enables}
+use Rattle.model.specs.Causes.{enables}
 use Rattle.lookups.proofs.first_enabling.first_among.Given as goal
 
 -- the first among the entries that are left is the first of all

@@ -1,6 +1,6 @@
 use Rattle.std.proofs.Common.{sym, ap, ◌∙◌}
 use Rattle.std.specs.List.{find}
-use Rattle.refutations.specs.Causes.{enables}
+use Rattle.model.specs.Causes.{enables}
 use Rattle.vertices.specs.declared.vertex.OwnerRef.TheVariants.{Version}
 use Rattle.lookups.specs.inner.Numbers.{AreFirstOf, Row}
 use Rattle.lookups.specs.inner.NumbersViews.{problem_of}

@@ -2,7 +2,7 @@ use Rattle.std.proofs.Common.{◌≡◌, ℕ, List, drop}
 use Rattle.std.specs.List.{find}
 use Rattle.std.specs.Option.{option_or}
 use Rattle.features.specs.EntryViews.{entry_views}
-use Rattle.refutations.specs.Causes.{enables}
+use Rattle.model.specs.Causes.{enables}
 use Rattle.lookups.specs.inner.ByName.{entry_named}
 use Rattle.lookups.proofs.first_enabling.first_entries.Given as goal
 

@@ -1,5 +1,5 @@
 use Rattle.std.proofs.Common.{◌≡◌, drop}
-use Rattle.refutations.specs.inner.Instances.{first_read, ask_read}
+use Rattle.model.specs.inner.Instances.{first_read, ask_read}
 use Rattle.lookups.specs.inner.TermViews.{term_views}
 use Rattle.lookups.proofs.named_by_terms.first_ask.Given as goal
 

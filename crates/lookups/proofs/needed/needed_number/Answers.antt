@@ -1,6 +1,6 @@
 use Rattle.std.proofs.Common.{◌∙◌, ap, sym, option_map}
 use Rattle.std.proofs.lemmas.Result.{IfOk-weaker}
-use Rattle.refutations.specs.inner.Instances.{needed_unmatched, number_read}
+use Rattle.model.specs.inner.Instances.{needed_unmatched, number_read}
 use Rattle.lookups.specs.inner.NumbersViews.{problem_of}
 use Rattle.lookups.specs.inner.NamedByTerms.{dep_seen}
 use Rattle.lookups.specs.inner.TermViews.{term_views}

@@ -4,7 +4,7 @@ use Rattle.std.proofs.lemmas.List.{append_assoc, drop_more}
 use Rattle.semver.specs.Identifiers.{parts_of}
 use Rattle.features.specs.EntryViews.{entry_view, entry_views}
 use Rattle.model.specs.Summary as model
-use Rattle.refutations.specs.Causes.{Cause}
+use Rattle.model.specs.Causes.{Cause}
 use Rattle.numbering.specs.GivenViews.{cause_views}
 use Rattle.numbering.specs.inner.CausesAt.{entry_causes}
 use Rattle.numbering.specs.inner.KnownProblem.{problem}

@@ -3,7 +3,7 @@ use Rattle.std.specs.Prelude.{OnOk, if◌then◌else◌}
 use Rattle.semver.specs.Identifiers.{parts_of}
 use Rattle.features.specs.EntryViews.{entry_view}
 use Rattle.model.specs.Summary.{same_text}
-use Rattle.refutations.specs.Causes.{of_asking, of_enabling}
+use Rattle.model.specs.Causes.{of_asking, of_enabling}
 use Rattle.numbering.specs.GivenViews.{cause_views}
 use Rattle.numbering.proofs.causes.put_on.Goals as goal
 

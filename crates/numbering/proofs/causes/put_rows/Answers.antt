@@ -11,7 +11,7 @@ use Rattle.model.specs.Summary as model
 use Rattle.model.specs.Summary.{Table, entries_at}
 use Rattle.model.specs.Tables.{IsInOrder}
 use Rattle.model.proofs.Lists.{all_first, all_rest}
-use Rattle.refutations.specs.Causes.{Cause, entries_or_none}
+use Rattle.model.specs.Causes.{Cause, entries_or_none}
 use Rattle.numbering.specs.GivenViews.{cause_views}
 use Rattle.numbering.specs.inner.CausesAt.{entry_causes, feature_causes}
 use Rattle.numbering.specs.inner.KnownProblem.{problem}

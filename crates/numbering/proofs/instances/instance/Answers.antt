@@ -1,8 +1,8 @@
 use Rattle.std.proofs.Common.{ap, subst, ◌∙◌}
 use Rattle.terms.specs.Terms.{terms_view}
 use Rattle.model.proofs.Accepted.{instance_apart}
-use Rattle.refutations.specs.Causes.{kind_of, terms_of_cause}
-use Rattle.refutations.proofs.CauseLaws.{cause_instance}
+use Rattle.model.specs.Causes.{kind_of, terms_of_cause}
+use Rattle.model.proofs.CauseLaws.{cause_instance}
 use Rattle.lookups.specs.inner.CauseViews.{cause_view}
 use Rattle.numbering.specs.inner.KnownProblem.{problem}
 use Rattle.numbering.specs.inner.TestedTerms.{AreOfTested, tested_views}

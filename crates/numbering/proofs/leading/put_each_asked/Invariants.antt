@@ -1,5 +1,5 @@
 use Rattle.std.proofs.Common.{◌≡◌, ◌++◌, drop, map}
-use Rattle.refutations.specs.Causes.{of_list}
+use Rattle.model.specs.Causes.{of_list}
 use Rattle.numbering.specs.inner.Asked.{features_of}
 use Rattle.numbering.specs.GivenViews.{cause_views}
 use Rattle.classes.specs.Classes.{class_view}

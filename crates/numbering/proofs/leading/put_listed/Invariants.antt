@@ -1,5 +1,5 @@
 use Rattle.std.proofs.Common.{◌≡◌, ◌++◌, drop, map}
-use Rattle.refutations.specs.Causes.{of_list}
+use Rattle.model.specs.Causes.{of_list}
 use Rattle.numbering.specs.GivenViews.{cause_views}
 use Rattle.classes.specs.Classes.{class_view}
 use Rattle.vertices.specs.inner.RefViews.{owner_ref_view}

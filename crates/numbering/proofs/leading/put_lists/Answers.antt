@@ -1,7 +1,7 @@
 use Rattle.std.proofs.lemmas.Result.{on_ok_weaker}
 use Rattle.features.specs.Views.{dependency_view}
 use Rattle.model.specs.Summary.{asked_of_target}
-use Rattle.refutations.specs.Causes.{of_list}
+use Rattle.model.specs.Causes.{of_list}
 use Rattle.numbering.specs.GivenViews.{cause_views}
 use Rattle.numbering.specs.inner.CausesAt.{root_asked}
 use Rattle.numbering.specs.inner.KnownProblem.{problem}

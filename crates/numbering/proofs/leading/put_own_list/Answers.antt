@@ -3,7 +3,7 @@ use Rattle.std.specs.Prelude.{codes}
 use Rattle.std.proofs.lemmas.List.{append_assoc}
 use Rattle.std.proofs.lemmas.Result.{on_ok_weaker}
 use Rattle.features.specs.Views.{dependency_view}
-use Rattle.refutations.specs.Causes.{of_list}
+use Rattle.model.specs.Causes.{of_list}
 use Rattle.numbering.specs.GivenViews.{cause_views}
 use Rattle.classes.specs.Classes.{class_view}
 use Rattle.vertices.specs.inner.RefViews.{owner_ref_view}

@@ -1,7 +1,7 @@
 use Rattle.std.proofs.Common.{◌++◌, map, sym, ap, ◌∙◌}
 use Rattle.std.proofs.lemmas.Result.{on_ok_weaker}
 use Rattle.features.specs.Views.{dependency_view}
-use Rattle.refutations.specs.Causes.{of_list}
+use Rattle.model.specs.Causes.{of_list}
 use Rattle.numbering.specs.inner.Asked.{asked_so}
 use Rattle.numbering.specs.GivenViews.{cause_views}
 use Rattle.numbering.specs.inner.CausesAt.{root_asked}

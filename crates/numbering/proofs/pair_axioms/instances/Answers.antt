@@ -1,5 +1,5 @@
 use Rattle.std.proofs.Common.{◌≡◌, ◌≤◌, length, arith, refl, sym, true, subst}
-use Rattle.refutations.specs.Causes.{Cause, is_cause}
+use Rattle.model.specs.Causes.{Cause, is_cause}
 use Rattle.numbering.specs.GivenViews.{given_views}
 use Rattle.numbering.specs.inner.KnownProblem.{problem}
 use Rattle.numbering.specs.Pairs.{AreGiven}

@@ -1,7 +1,7 @@
 use Rattle.std.proofs.Common.{◌≡◌, ◌++◌, drop, map}
 use Rattle.semver.specs.Identifiers.{parts_of}
 use Rattle.classes.specs.Classes.{class_view}
-use Rattle.refutations.specs.Causes.{of_ask}
+use Rattle.model.specs.Causes.{of_ask}
 use Rattle.numbering.specs.GivenViews.{cause_views}
 use Rattle.numbering.proofs.pair_causes.put_asks_in.Given as goal
 

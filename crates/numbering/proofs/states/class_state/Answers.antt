@@ -4,7 +4,7 @@ use Rattle.classes.specs.Classes.{class_view}
 use Rattle.classes.specs.declared.class.Class.{Class}
 use Rattle.features.specs.Views.{dependency_view}
 use Rattle.model.specs.Vertices.{absent, dep_classes, in_class}
-use Rattle.refutations.specs.inner.Listed.{classes_if}
+use Rattle.model.specs.inner.Listed.{classes_if}
 use Rattle.numbering.specs.inner.KnownProblem.{problem}
 use Rattle.vertices.specs.inner.RefViews.{owner_ref_view}
 use Rattle.numbering.proofs.Stated.{classes_are_states}

@@ -1,6 +1,6 @@
 use Rattle.std.proofs.Common.{ap, ◌∷◌, ◌∙◌, true, false, map}
 use Rattle.model.specs.Vertices.{dep}
-use Rattle.refutations.specs.inner.Listed.{classes_if}
+use Rattle.model.specs.inner.Listed.{classes_if}
 use Rattle.numbering.specs.inner.KnownProblem.{problem}
 use Rattle.vertices.specs.inner.RefViews.{owner_ref_view}
 use Rattle.numbering.proofs.Tested.{no_class_is}

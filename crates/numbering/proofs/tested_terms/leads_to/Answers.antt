@@ -1,7 +1,7 @@
 use Rattle.std.proofs.Common.{ap, ◌∷◌, ◌∙◌, false, map, sym}
 use Rattle.classes.specs.Classes.{class_view}
 use Rattle.model.specs.Vertices.{dep}
-use Rattle.refutations.specs.inner.Listed.{classes_if}
+use Rattle.model.specs.inner.Listed.{classes_if}
 use Rattle.numbering.specs.inner.KnownProblem.{problem}
 use Rattle.numbering.specs.inner.TestedTerms.{is_class}
 use Rattle.vertices.specs.inner.RefViews.{owner_ref_view}

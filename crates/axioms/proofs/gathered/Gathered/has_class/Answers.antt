@@ -1,7 +1,7 @@
 use Rattle.std.proofs.Common.{◌∙◌, ap}
 use Rattle.classes.specs.Classes.{class_view}
 use Rattle.features.specs.Views.{dependency_view}
-use Rattle.refutations.specs.Causes.{has_class}
+use Rattle.model.specs.Causes.{has_class}
 use Rattle.axioms.proofs.gathered.Gathered.has_class.Goals as goal
 
 pub returns : goal.returns

@@ -1,7 +1,7 @@
 use Rattle.std.proofs.Common.{◌∙◌, ap, sym}
 use Rattle.std.proofs.lemmas.Result.{IfOk-weaker}
 use Rattle.model.specs.Axioms.{without_full}
-use Rattle.refutations.specs.Causes.{terms_of_cause}
+use Rattle.model.specs.Causes.{terms_of_cause}
 use Rattle.lookups.specs.inner.CauseViews.{cause_view}
 use Rattle.axioms.specs.inner.KeptViews.{problem_of}
 use Rattle.axioms.proofs.instances.instance.instance_terms.Goals as goal

@@ -1,6 +1,6 @@
 use Rattle.std.proofs.Common.{◌≡◌, ◌||◌, ℕ, List}
 use Rattle.std.specs.List.{list_any}
-use Rattle.refutations.specs.Causes.{same_pair}
+use Rattle.model.specs.Causes.{same_pair}
 use Rattle.axioms.specs.inner.Pairs.{has_pair}
 use Rattle.axioms.proofs.pairs.Pairs.put_each.Given as goal
 

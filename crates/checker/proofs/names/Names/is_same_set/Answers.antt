@@ -1,6 +1,6 @@
 use Rattle.std.proofs.Common.{◌∙◌, sym, ap, refl}
-use Rattle.refutations.specs.inner.Terms.{same_states}
-use Rattle.refutations.proofs.Sets.{same_states-is}
+use Rattle.model.specs.inner.Terms.{same_states}
+use Rattle.model.proofs.Sets.{same_states-is}
 use Rattle.checker.specs.inner.Names.{named_set}
 use Rattle.checker.specs.inner.Ready.{tables_of}
 use Rattle.checker.proofs.names.Names.is_same_set.Goals as goal

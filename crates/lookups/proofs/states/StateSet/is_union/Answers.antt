@@ -1,5 +1,5 @@
 use Rattle.std.proofs.Common.{◌∙◌, ◌&&◌, sym}
-use Rattle.refutations.specs.inner.Terms.{is_within}
+use Rattle.model.specs.inner.Terms.{is_within}
 use Rattle.lookups.specs.inner.Sets.{all_in_either}
 use Rattle.lookups.proofs.SetLaws.{and_then, and_else, union_is}
 use Rattle.lookups.proofs.states.StateSet.is_union.Goals as goal

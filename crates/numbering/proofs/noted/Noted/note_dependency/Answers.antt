@@ -4,7 +4,7 @@ use Rattle.std.proofs.lemmas.Result.{on_ok_weaker}
 use Rattle.classes.specs.Classes.{class_view}
 use Rattle.features.specs.Views.{dependency_view}
 use Rattle.model.specs.Vertices.{State, dep}
-use Rattle.refutations.specs.Causes.{dependency_at}
+use Rattle.model.specs.Causes.{dependency_at}
 use Rattle.numbering.specs.inner.AskedFor.{IsNoted}
 use Rattle.numbering.specs.inner.KnownProblem.{problem}
 use Rattle.vertices.specs.inner.RefViews.{owner_ref_view, state_ref_view}

@@ -1,5 +1,0 @@
-use Rattle.refutations.proofs.CauseLaws.{cause_instance}
-use Rattle.refutations.proofs.causes_give_instances.Goals as goal
-
-pub returns : goal.returns
-returns c = λ q k t. cause_instance q k t

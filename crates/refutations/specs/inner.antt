@@ -1,4 +1,0 @@
-pub mod Terms
-pub mod Instances
-pub mod Checks
-pub mod Listed
