@@ -7,7 +7,7 @@ use Rattle.std.proofs.lemmas.List.{append-nil, get_or_append_left, length-append
 use Rattle.std.proofs.Math.Seq.{get_or-append_seam}
 use Rattle.terms.specs.Terms.{TermView}
 use Rattle.version_sets.specs.Sets.{Members}
-use Rattle.incompatibilities.specs.Chains.{ChainView}
+use Rattle.incompatibilities.specs.inner.Chains.{ChainView}
 use Rattle.incompatibilities.specs.Incompatibilities.{LiesIn, states_at}
 use Rattle.incompatibilities.specs.Stores.{ComesOut, EntryView, Follows, IsAxiom, entry, terms_of}
 use Rattle.incompatibilities.specs.declared.origin.Origin.TheVariants.{Axiom}

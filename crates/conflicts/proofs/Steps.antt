@@ -8,7 +8,7 @@ use Rattle.version_sets.proofs.Laws.{size-le}
 use Rattle.terms.specs.Terms.{TermView}
 use Rattle.incompatibilities.specs.Incompatibilities.{IsCombination, LiesIn, Terms, states_at, HoldsAt}
 use Rattle.incompatibilities.specs.Stores.{ComesOut, EntryView, entry, terms_of, touches}
-use Rattle.incompatibilities.specs.Chains.{ChainView}
+use Rattle.incompatibilities.specs.inner.Chains.{ChainView}
 use Rattle.incompatibilities.specs.declared.chain.Link.{Link}
 use Rattle.incompatibilities.proofs.Broken.{lies_combined}
 use Rattle.incompatibilities.proofs.Storing.{out_push}

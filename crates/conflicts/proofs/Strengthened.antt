@@ -3,7 +3,7 @@ use Rattle.std.proofs.Common.{◌≡◌, ℕ, ◌<◌, List, length}
 use Rattle.std.proofs.Common.{sym, subst, arith}
 use Rattle.terms.specs.Terms.{TermView}
 use Rattle.version_sets.specs.Sets.{Members}
-use Rattle.incompatibilities.specs.Chains.{ChainView}
+use Rattle.incompatibilities.specs.inner.Chains.{ChainView}
 use Rattle.incompatibilities.specs.Incompatibilities.{Fit, LiesIn, states_at}
 use Rattle.incompatibilities.specs.Stores.{EntryView, entry}
 use Rattle.incompatibilities.proofs.Broken.{lies_fit}

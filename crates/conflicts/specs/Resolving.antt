@@ -5,7 +5,7 @@ use Rattle.std.specs.Prelude.{cond, nat_lt}
 use Rattle.version_sets.specs.Sets.{Members}
 use Rattle.incompatibilities.specs.Incompatibilities.{IsIncompatibility, LiesIn, states_at}
 use Rattle.terms.specs.Terms.{TermView}
-use Rattle.incompatibilities.specs.Chains.{ChainView}
+use Rattle.incompatibilities.specs.inner.Chains.{ChainView}
 use Rattle.incompatibilities.specs.declared.chain.Link.{Link}
 use Rattle.incompatibilities.specs.Stores.{ComesOut, EntryView, Follows, IsAxiom, entry, terms_of, touches}
 use Rattle.incompatibilities.specs.declared.origin.Origin.TheVariants as origins

@@ -22,8 +22,8 @@ use Rattle.model.proofs.Inner.{version_inner, class_inner}
 use Rattle.model.proofs.Owners.{is_candidate, owner_is, owner_package, same_owner_place, same_package, served_is}
 use Rattle.model.proofs.Reached.{reached_met}
 use Rattle.facts.proofs.Mapped.{Keeps, HoldsFar, holds_far}
-use Rattle.facts.specs.Built.{HasBareRoot}
-use Rattle.facts.specs.Followed.{AgreesWith, IsBrought}
+use Rattle.model.specs.Selected.{HasBareRoot, IsBrought}
+use Rattle.facts.specs.inner.Followed.{AgreesWith}
 
 -- ---- states
 

@@ -25,7 +25,7 @@ use Rattle.model.proofs.Closed.{owner_of_fact}
 use Rattle.model.proofs.Gathered.{name_back}
 use Rattle.model.proofs.Places.{some_at, place_of, got_in}
 use Rattle.facts.specs.inner.Nodes.{AreMet, IsNode, IsLead, AreFlags}
-use Rattle.facts.specs.Built.{LeadsFrom, AreFound, IsBuilt}
+use Rattle.facts.specs.inner.Built.{LeadsFrom, AreFound, IsBuilt}
 
 -- ---- the package that an owner is
 

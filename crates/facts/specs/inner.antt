@@ -7,3 +7,5 @@ pub mod Chains
 pub mod Lists
 pub mod Worklists
 pub mod Nodes
+pub mod Built
+pub mod Followed

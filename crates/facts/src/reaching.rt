@@ -18,7 +18,8 @@ ghost use Rattle.model.specs.Vertices.{Owner, State, Vertex};
 ghost use Rattle.model.specs.WellFormed.{IsCatalogue};
 ghost use Rattle.manifest.specs.Manifests.{root_asks};
 ghost use Rattle.facts.specs.inner.Graphs.{IsGraph, NodeView};
-ghost use Rattle.facts.specs.Built.{AreFound, HasBareRoot, IsBuilt};
+ghost use Rattle.facts.specs.inner.Built.{AreFound, IsBuilt};
+ghost use Rattle.model.specs.Selected.{HasBareRoot};
 ghost use Rattle.facts.specs.inner.Nodes.{AreFlags, AreMet};
 
 /// Packages with where their dependencies lead in an assignment are a graph: the facts can be found over them.

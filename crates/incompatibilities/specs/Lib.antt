@@ -1,4 +1,3 @@
 pub mod Incompatibilities
-pub mod Chains
 pub mod Stores
 pub mod inner

@@ -1,3 +1,4 @@
+pub mod Chains
 pub mod Merging
 pub mod Rows
 pub mod Indexed

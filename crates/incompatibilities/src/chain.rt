@@ -1,6 +1,6 @@
 //! How an incompatibility came out of earlier ones.
 
-ghost use Rattle.incompatibilities.specs.Chains.{ChainView};
+ghost use Rattle.incompatibilities.specs.inner.Chains.{ChainView};
 ghost use Rattle.std.specs.Prelude.{◌≡◌, ◌++◌, ◌∷◌, [], OnErr, OnOk};
 
 use crate::origin::Id;
@@ -25,7 +25,7 @@ pub struct Chain {
 }
 
 impl Model for Chain {
-    ghost use Rattle.incompatibilities.specs.Chains.{ChainView};
+    ghost use Rattle.incompatibilities.specs.inner.Chains.{ChainView};
 
     ghost Value = { ChainView };
 

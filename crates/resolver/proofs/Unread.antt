@@ -12,7 +12,7 @@ use Rattle.lockfile.proofs.Back.{bytes-back}
 use Rattle.catalogue.specs.Problems.{IsProblemOfRun}
 use Rattle.catalogue.specs.Runs.{Calls}
 use Rattle.catalogue.specs.Sources.{is_source}
-use Rattle.facts.specs.Built.{HasBareRoot}
+use Rattle.model.specs.Selected.{HasBareRoot}
 use Rattle.resolver.specs.Inputs.{RequestView, AreRead, problem_of}
 use Rattle.resolver.specs.Answers.{IsChosen, IsUnreadable}
 use Rattle.resolver.specs.declared.inputs.Inputs.{Inputs}

@@ -17,10 +17,8 @@ use Rattle.selection.specs.Verdicts.{IsVerdictOn}
 use Rattle.selection.specs.declared.verdict.Verdict.{Verdict}
 use Rattle.selection.specs.declared.verdict.Verdict.TheVariants.{Valid}
 use Rattle.explainer.specs.Explanations.{explanation_of}
-use Rattle.facts.specs.Built.{HasBareRoot}
-use Rattle.facts.specs.Followed.{IsBrought}
-use Rattle.solver.specs.Solving.{IsSelected, IsUnsolvable}
-use Rattle.selection.specs.Preferred.{IsPreferred, preferred_in}
+use Rattle.model.specs.Selected.{HasBareRoot, IsBrought, IsPreferred, IsSelected, IsUnsolvable}
+use Rattle.catalogue.specs.Problems.{preferred_in}
 use Rattle.resolver.specs.Faults.{input_wants_memory}
 use Rattle.resolver.specs.Inputs.{RequestView, AreRead, IsInputFault, EndsWith, UnlessMemory, problem_of}
 use Rattle.resolver.specs.declared.inputs.Inputs.{Inputs}

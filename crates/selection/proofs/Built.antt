@@ -35,7 +35,7 @@ use Rattle.selection.specs.inner.Contents.{AreMetVersions}
 use Rattle.selection.specs.inner.Contents.{IsThere, owner_if, owners_of, met_owner, Placed, kept_with, package_if}
 use Rattle.selection.specs.inner.Contents.{places_in}
 use Rattle.model.specs.inner.ContentOf.{package_of}
-use Rattle.facts.specs.Built.{IsBuilt}
+use Rattle.facts.specs.inner.Built.{IsBuilt}
 use Rattle.selection.proofs.MetVersions.{once_at, rising_of, owners_once, some_is}
 use Rattle.model.proofs.Inner.{name_in, version_in}
 

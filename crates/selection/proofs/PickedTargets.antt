@@ -19,7 +19,7 @@ use Rattle.selection.specs.declared.met.MetVersion.{MetVersion}
 use Rattle.selection.proofs.MetVersions.{grows_on, owner_on, owners_once}
 use Rattle.selection.proofs.MetNodes.{SoFar}
 use Rattle.selection.specs.inner.Followed.{PicksFollowed, is_followed}
-use Rattle.selection.specs.Preferred.{preferred_in}
+use Rattle.catalogue.specs.Problems.{preferred_in}
 use Rattle.selection.specs.inner.Met.{ArePicks, IsPick, IsPickIf, place_picked}
 use Rattle.selection.proofs.Picks.{one_picked}
 

@@ -20,7 +20,7 @@ use Rattle.catalogue.specs.declared.candidate.Rank.{Rank}
 use Rattle.catalogue.specs.declared.candidate.Rank.TheVariants.{Locked, Fits, Rest}
 use Rattle.catalogue.proofs.Preferences.{at_rank, map-reverse}
 use Rattle.selection.proofs.Rows.{row_of, versions_are}
-use Rattle.selection.specs.Preferred.{of_rank, by_rank, preferred_in}
+use Rattle.catalogue.specs.Problems.{of_rank, by_rank, preferred_in}
 use Rattle.selection.specs.inner.Met.{is_matched, versions_at, place_picked}
 
 -- ---- the loop over the places

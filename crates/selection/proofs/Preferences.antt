@@ -12,7 +12,8 @@ use Rattle.catalogue.specs.Ranks.{AreRanked, Ranked, rank_of, records}
 use Rattle.catalogue.specs.Runs.{Asked, candidates_in}
 use Rattle.catalogue.specs.Stores.{Row, row_at}
 use Rattle.catalogue.proofs.Preferences.{fitting_next, locked_first, others_last}
-use Rattle.selection.specs.Preferred.{by_rank, preferred_by, preferred_in}
+use Rattle.selection.specs.Preferred.{preferred_by}
+use Rattle.catalogue.specs.Problems.{by_rank, preferred_in}
 
 -- ---- the candidates of a name
 

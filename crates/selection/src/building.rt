@@ -10,7 +10,7 @@ ghost use Rattle.lockfile.specs.inner.Views.{package_view};
 ghost use Rattle.model.specs.Vertices.{the_root};
 ghost use Rattle.model.specs.Order.{package_cmp};
 ghost use Rattle.model.specs.inner.ContentOf.{package_of};
-ghost use Rattle.facts.specs.Built.{IsBuilt};
+ghost use Rattle.facts.specs.inner.Built.{IsBuilt};
 ghost use Rattle.selection.specs.inner.Contents.{AreInOrder, AreKept, AreMetVersions, IsThere, placed_views, kept_with};
 ghost use Rattle.selection.specs.inner.Contents.{met_owner, owners_of, package_if};
 

@@ -12,12 +12,12 @@ ghost use Rattle.model.specs.Stands.{IsReachedFact, StandsFor};
 ghost use Rattle.model.specs.Vertices.{Owner};
 ghost use Rattle.model.specs.Walk.{IsWalk, Picks};
 ghost use Rattle.catalogue.specs.Loads.{store_of};
-ghost use Rattle.catalogue.specs.Problems.{problem_in};
+ghost use Rattle.catalogue.specs.Problems.{preferred_in, problem_in};
 ghost use Rattle.catalogue.specs.Ranks.{AreRanked};
 ghost use Rattle.catalogue.specs.Runs.{Asked};
 ghost use Rattle.catalogue.specs.Stores.{CatalogueView, ranked_at};
 ghost use Rattle.selection.specs.inner.Followed.{AreFollowed, PicksFollowed};
-ghost use Rattle.selection.specs.Preferred.{preferred_by, preferred_in};
+ghost use Rattle.selection.specs.Preferred.{preferred_by};
 
 use catalogue::{Catalogue, catalogues_are_well_formed};
 use manifest::Manifest;

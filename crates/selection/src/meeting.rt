@@ -4,10 +4,9 @@ ghost use Rattle.std.specs.Prelude.{◌≡◌, ◌||◌, IfOk, OnOk, map, nat_eq
 ghost use Rattle.features.specs.Views.{dependency_view, dependency_views};
 ghost use Rattle.facts.specs.inner.Graphs.{node_views};
 ghost use Rattle.facts.specs.inner.Nodes.{AreMet};
-ghost use Rattle.catalogue.specs.Problems.{problem_in};
+ghost use Rattle.catalogue.specs.Problems.{preferred_in, problem_in};
 ghost use Rattle.selection.specs.inner.Contents.{AreMetVersions, Grows, owners_of};
 ghost use Rattle.selection.specs.inner.Followed.{PicksFollowed, is_followed};
-ghost use Rattle.selection.specs.Preferred.{preferred_in};
 ghost use Rattle.selection.specs.inner.Met.{AreOrders, ArePicks, IsPick, IsPickIf};
 
 use crate::bringing::brings_at;

@@ -3,10 +3,9 @@
 ghost use Rattle.std.specs.Prelude.{◌≡◌, IfOk, OnOk, map};
 ghost use Rattle.facts.specs.inner.Graphs.{node_views};
 ghost use Rattle.facts.specs.inner.Nodes.{AreFlags, AreMet};
-ghost use Rattle.catalogue.specs.Problems.{problem_in};
+ghost use Rattle.catalogue.specs.Problems.{preferred_in, problem_in};
 ghost use Rattle.selection.specs.inner.Contents.{AreMetVersions, owners_of};
 ghost use Rattle.selection.specs.inner.Followed.{PicksFollowed};
-ghost use Rattle.selection.specs.Preferred.{preferred_in};
 ghost use Rattle.selection.specs.inner.Met.{AreOrders, all_met, are_met};
 ghost use Rattle.selection.specs.inner.Rounds.{Reaches};
 

@@ -1,9 +1,9 @@
 //! The preferred walk, where it is complete and valid.
 
 ghost use Rattle.std.specs.Prelude.{IfOk, IfSome};
-ghost use Rattle.catalogue.specs.Problems.{problem_in};
-ghost use Rattle.facts.specs.Built.{HasBareRoot};
-ghost use Rattle.selection.specs.Preferred.{Answers, preferred_in};
+ghost use Rattle.catalogue.specs.Problems.{preferred_in, problem_in};
+ghost use Rattle.model.specs.Selected.{HasBareRoot};
+ghost use Rattle.selection.specs.Preferred.{Answers};
 
 use crate::building::content_of;
 use crate::rounds::{Reached, reach};

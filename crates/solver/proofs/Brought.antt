@@ -15,7 +15,7 @@ use Rattle.model.specs.inner.Search.{IsUnbroken, IsReachedFact, LeadsTo}
 use Rattle.model.proofs.Cut.{Next, Place, back, brings_back, next, one_place, package_at, package_here, root_back}
 use Rattle.model.proofs.Cut.{stands_valid}
 use Rattle.model.proofs.Owners.{owner_is}
-use Rattle.facts.specs.Followed.{IsBrought}
+use Rattle.model.specs.Selected.{IsBrought}
 
 module _ (q : Problem) (state : Vertex → State) (ok : IsUnbroken q state) (known : IsCatalogue q) (content : Content)
     (stands : StandsFor q (LeadsTo q state) content) where

@@ -8,7 +8,7 @@ use Rattle.std.proofs.lemmas.List.{append-nil, get_or_append_left, get_or-map, l
 use Rattle.version_sets.specs.Sets.{Members, has}
 use Rattle.terms.specs.Terms.{TermView}
 use Rattle.incompatibilities.specs.inner.Counts.{axioms, combinations, given_in, links_in}
-use Rattle.incompatibilities.specs.Chains.{ChainView}
+use Rattle.incompatibilities.specs.inner.Chains.{ChainView}
 use Rattle.incompatibilities.specs.Incompatibilities.{Fit, IsCombination, LiesIn, states_at}
 use Rattle.incompatibilities.specs.Stores.{ComesOut, EntryView, OriginFits, entry, terms_of, touches}
 use Rattle.incompatibilities.specs.declared.chain.Link.{Link}

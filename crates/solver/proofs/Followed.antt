@@ -4,7 +4,7 @@ use Rattle.std.proofs.Common.{inr}
 use Rattle.model.specs.Content.{Candidate, Content, Problem}
 use Rattle.model.specs.Walk.{IsWalk}
 use Rattle.guiding.specs.inner.Guides.{CanFollow}
-use Rattle.facts.specs.Built.{HasBareRoot}
+use Rattle.model.specs.Selected.{HasBareRoot}
 use Rattle.selection.specs.Preferred.{Answers}
 use Rattle.solver.specs.Solving.{IsAnswer, IsFound, IsSolved, derivation_of}
 use Rattle.solver.specs.declared.solving.Outcome.{Outcome}

@@ -13,7 +13,7 @@ use Rattle.numbering.proofs.Places.{number_at}
 use Rattle.numbering.proofs.Sound.{has_assignment}
 use Rattle.guiding.specs.inner.Guides.{final_of}
 use Rattle.guiding.proofs.FirstTerms.{space_starts}
-use Rattle.facts.specs.Followed.{AgreesWith}
+use Rattle.facts.specs.inner.Followed.{AgreesWith}
 use Rattle.version_sets.specs.Sets.{has}
 use Rattle.solver.specs.inner.Leads.{IsLeft}
 use Rattle.solver.proofs.Ends.{first_alone, first_zero, number_within}

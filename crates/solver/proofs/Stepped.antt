@@ -11,7 +11,7 @@ use Rattle.guiding.specs.inner.Following.{IsSelection}
 use Rattle.guiding.specs.declared.turns.Answer.{Answer}
 use Rattle.guiding.specs.declared.turns.Answer.TheVariants as answers
 use Rattle.guiding.specs.inner.Guides.{CanFollow, EncodedView, HasFound, HasSearched, final_of}
-use Rattle.facts.specs.Built.{HasBareRoot}
+use Rattle.model.specs.Selected.{HasBareRoot}
 use Rattle.facts.proofs.Followed.{follows}
 use Rattle.solver.proofs.Assigned.{packages_assigned}
 use Rattle.solver.proofs.Left.{agrees_with}

@@ -1,31 +1,16 @@
 -- What a search over a manifest and a loaded index comes to.
-use Rattle.std.specs.Prelude.{◌≡◌, ◌≤◌, ◌⊎◌, ℕ, List, [], length, Option, Some, None}
+use Rattle.std.specs.Prelude.{◌≡◌, ◌≤◌, ℕ, List, [], length, Option, Some, None}
 use Rattle.model.specs.Content.{Candidate, Content, Problem}
-use Rattle.model.specs.Derivation.{IsAccepted, Step}
+use Rattle.model.specs.Derivation.{Step}
 use Rattle.model.specs.Selection.{IsValidSelection}
-use Rattle.facts.specs.Built.{HasBareRoot}
-use Rattle.facts.specs.Followed.{IsBrought}
-use Rattle.selection.specs.Preferred.{IsPreferred}
+use Rattle.model.specs.Selected.{HasBareRoot, IsBrought, IsSelected, IsUnsolvable}
 use Rattle.solver.specs.declared.solving.Outcome.{Outcome}
 use Rattle.solver.specs.declared.solving.Outcome.TheVariants.{Selection, Unsolvable}
 
--- a derivation that is accepted; and no content at all is a valid selection
-pub record IsUnsolvable (q : Problem) (steps : List Step) : Type 0 where
-  pub accepted : IsAccepted q steps
-  pub none : (content : Content) → IsValidSelection q content → ⊥
-
 -- preferred: the candidates by name, the most preferred first
 module _ (q : Problem) (preferred : List (List ℕ × List Candidate)) where
-  -- a valid selection, whose root has no checksum; where the preferred walk is complete and valid, that walk, and else
-  -- one of which the root alone brings all
-  pub record IsSelected (content : Content) : Type 0 where
-    pub valid : IsValidSelection q content
-    pub bare_root : HasBareRoot q content
-    pub walk : (w : Content) → IsPreferred q preferred w → w ≡ content
-    pub needed : IsBrought q content ⊎ IsPreferred q preferred content
-
   abbrev pub IsSolved : Outcome → Type 0
-  IsSolved (Selection content) = IsSelected content
+  IsSolved (Selection content) = IsSelected q preferred content
   IsSolved (Unsolvable derivation) = IsUnsolvable q derivation
 
 -- the derivation, if there is one

@@ -20,8 +20,7 @@ ghost use Rattle.model.specs.Selection.{IsValidSelection};
 ghost use Rattle.numbering.specs.inner.Assignments.{state_of};
 ghost use Rattle.numbering.specs.inner.KnownProblem.{problem};
 ghost use Rattle.guiding.specs.inner.Guides.{final_of};
-ghost use Rattle.facts.specs.Built.{HasBareRoot};
-ghost use Rattle.facts.specs.Followed.{IsBrought};
+ghost use Rattle.model.specs.Selected.{HasBareRoot, IsBrought};
 
 use crate::meeting::meet;
 use catalogue::catalogues_are_well_formed;

@@ -2,7 +2,7 @@
 
 ghost use Rattle.std.specs.Prelude.{◌≡◌, ◌≤◌, IfOk, IfSome, codes, is_some, length, true};
 ghost use Rattle.incompatibilities.specs.Stores.{entries_view};
-ghost use Rattle.catalogue.specs.Problems.{problem_in};
+ghost use Rattle.catalogue.specs.Problems.{preferred_in, problem_in};
 ghost use Rattle.numbering.specs.inner.KnownProblem.{problem};
 ghost use Rattle.guiding.specs.inner.Guides.{HasSearched, IsOfInstance};
 ghost use Rattle.numbering.specs.Numberings.{IsNumbering};
@@ -10,8 +10,8 @@ ghost use Rattle.propagation.specs.Trails.{trail_view};
 ghost use Rattle.solver.specs.Refusing.{HasNoMore, axioms_of, combinations_of};
 ghost use Rattle.guiding.specs.inner.Searching.{IsRefutation};
 ghost use Rattle.guiding.specs.inner.Following.{AreGiven};
-ghost use Rattle.solver.specs.Solving.{HasStepEach, IsAnswer, IsFound, IsSolved, IsUnsolvable, derivation_of};
-ghost use Rattle.selection.specs.Preferred.{preferred_in};
+ghost use Rattle.solver.specs.Solving.{HasStepEach, IsAnswer, IsFound, IsSolved, derivation_of};
+ghost use Rattle.model.specs.Selected.{IsUnsolvable};
 ghost use Rattle.solver.specs.inner.Flats.{LieSomewhere};
 
 use crate::counting::axioms_in;

@@ -8,7 +8,7 @@ use Rattle.model.specs.Candidates.{oldest_first, preferred_rust, rust_first}
 use Rattle.model.proofs.Examples.Small.{text_a, registry, digits, locked}
 use Rattle.catalogue.specs.Loads.{ranked_among}
 use Rattle.catalogue.specs.declared.candidate.Rank.TheVariants.{Locked, Fits, Rest}
-use Rattle.selection.specs.Preferred.{by_rank}
+use Rattle.catalogue.specs.Problems.{by_rank}
 
 -- version 1.n.0 with what it needs of Rust
 abbrev at : ℕ → Option RustVersion → Bool → Record

@@ -5,9 +5,9 @@ use Rattle.model.specs.Vertices.{Owner}
 use Rattle.model.specs.Walk.{IsComplete, IsWalk}
 use Rattle.facts.specs.inner.Graphs.{NodeView, node_views}
 use Rattle.catalogue.specs.Stores.{CatalogueView}
-use Rattle.facts.specs.Built.{IsBuilt}
+use Rattle.facts.specs.inner.Built.{IsBuilt}
 use Rattle.selection.specs.inner.Contents.{AreMetVersions, owners_of}
-use Rattle.selection.specs.Preferred.{preferred_in}
+use Rattle.catalogue.specs.Problems.{preferred_in}
 use Rattle.selection.specs.declared.rounds.Reached.{Reached}
 
 -- of these the preferred walk can be built, and it is complete

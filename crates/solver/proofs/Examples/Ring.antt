@@ -13,7 +13,7 @@ use Rattle.model.proofs.Lists.{in_none}
 use Rattle.model.proofs.Examples.Small.{text_a, text_b, text_f, version_1_0, on_any, asking, optional_on, candidate}
 use Rattle.model.proofs.Examples.Small.{asked_by_demo, locked, demo}
 use Rattle.model.proofs.Examples.Held.{ring-valid}
-use Rattle.facts.specs.Followed.{IsBrought}
+use Rattle.model.specs.Selected.{IsBrought}
 
 -- f enables b
 abbrev table : Table

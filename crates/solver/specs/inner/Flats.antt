@@ -7,7 +7,7 @@ use Rattle.incompatibilities.specs.Incompatibilities.{IsCombination, LiesIn, sta
 use Rattle.incompatibilities.specs.Stores.{EntryView, entry, terms_of, touches}
 use Rattle.incompatibilities.specs.declared.origin.Origin.TheVariants as origins
 use Rattle.incompatibilities.specs.inner.Counts.{axioms, combinations, given_in, links_in}
-use Rattle.incompatibilities.specs.Chains.{ChainView}
+use Rattle.incompatibilities.specs.inner.Chains.{ChainView}
 use Rattle.incompatibilities.specs.declared.chain.Link.{Link}
 use Rattle.solver.specs.declared.flat.Flat.{Flat}
 use Rattle.solver.specs.declared.flat.Source.{Source}

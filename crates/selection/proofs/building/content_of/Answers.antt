@@ -1,7 +1,7 @@
 use Rattle.std.proofs.Common.{map, subst, sym, length}
 use Rattle.facts.specs.inner.Graphs.{node_views}
 use Rattle.catalogue.specs.Problems.{problem_in}
-use Rattle.facts.specs.Built.{IsBuilt}
+use Rattle.facts.specs.inner.Built.{IsBuilt}
 use Rattle.selection.specs.inner.Contents.{placed_views, owners_of}
 use Rattle.selection.proofs.Built.{no_ties, is_content, is_built, places_apart, places_within}
 use Rattle.selection.proofs.building.content_of.Goals as goal

@@ -1,5 +1,4 @@
-use Rattle.catalogue.specs.Problems.{problem_in}
-use Rattle.selection.specs.Preferred.{preferred_in}
+use Rattle.catalogue.specs.Problems.{preferred_in, problem_in}
 use Rattle.selection.proofs.Picks.{preferred_among}
 use Rattle.selection.proofs.laws.there_is_one_walk.Goals as goal
 

@@ -3,12 +3,11 @@ use Rattle.std.proofs.Common.{subst, arith}
 use Rattle.std.proofs.lemmas.List.{length-map, map-append, length-append}
 use Rattle.features.specs.Views.{brings_view}
 use Rattle.facts.specs.inner.Graphs.{node_view, node_views}
-use Rattle.catalogue.specs.Problems.{problem_in}
+use Rattle.catalogue.specs.Problems.{preferred_in, problem_in}
 use Rattle.selection.specs.inner.Contents.{owners_of}
 use Rattle.selection.proofs.MetVersions.{owner_on, owners_once}
 use Rattle.selection.proofs.MetNodes.{one_more, all_met}
 use Rattle.selection.specs.inner.Followed.{PicksFollowed}
-use Rattle.selection.specs.Preferred.{preferred_in}
 use Rattle.selection.specs.inner.Met.{ArePicks}
 use Rattle.selection.proofs.PickedTargets.{leads_of, round_begun, so_far_on}
 use Rattle.selection.proofs.meeting.meet.Goals as goal

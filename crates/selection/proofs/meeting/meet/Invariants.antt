@@ -1,10 +1,9 @@
 use Rattle.std.proofs.Common.{◌-◌, ◌^◌, length, map}
 use Rattle.facts.specs.inner.Graphs.{node_views}
-use Rattle.catalogue.specs.Problems.{problem_in}
+use Rattle.catalogue.specs.Problems.{preferred_in, problem_in}
 use Rattle.selection.specs.inner.Contents.{owners_of}
 use Rattle.selection.proofs.MetNodes.{SoFar}
 use Rattle.selection.specs.inner.Followed.{PicksFollowed}
-use Rattle.selection.specs.Preferred.{preferred_in}
 use Rattle.selection.specs.inner.Met.{AreOrders}
 use Rattle.selection.proofs.meeting.meet.Given as goal
 

@@ -5,7 +5,7 @@ use Rattle.features.specs.Views.{dependency_view, dependency_views}
 use Rattle.facts.specs.inner.Graphs.{flag_at}
 use Rattle.selection.specs.inner.Contents.{owners_of}
 use Rattle.selection.specs.inner.Followed.{is_followed}
-use Rattle.selection.specs.Preferred.{preferred_in}
+use Rattle.catalogue.specs.Problems.{preferred_in}
 use Rattle.selection.specs.inner.Met.{IsPickIf}
 use Rattle.selection.proofs.PickedTargets.{more_targets}
 use Rattle.selection.proofs.meeting.targets_of.Goals as goal

@@ -1,9 +1,8 @@
 use Rattle.std.proofs.Common.{map, refl}
-use Rattle.catalogue.specs.Problems.{problem_in}
+use Rattle.catalogue.specs.Problems.{preferred_in, problem_in}
 use Rattle.selection.specs.inner.Contents.{owners_of}
 use Rattle.facts.proofs.Found.{is_graph}
 use Rattle.selection.specs.inner.Followed.{PicksFollowed}
-use Rattle.selection.specs.Preferred.{preferred_in}
 use Rattle.selection.proofs.rounds.follow.Goals as goal
 
 pub facts_of-requires : goal.facts_of-requires

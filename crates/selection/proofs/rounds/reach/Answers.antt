@@ -1,8 +1,7 @@
 use Rattle.std.proofs.Common.{rules, ◌≡◌, map, true, false, refl, sym, ◌∙◌}
 use Rattle.facts.specs.inner.Graphs.{node_views}
-use Rattle.catalogue.specs.Problems.{problem_in}
+use Rattle.catalogue.specs.Problems.{preferred_in, problem_in}
 use Rattle.selection.specs.inner.Contents.{owners_of}
-use Rattle.selection.specs.Preferred.{preferred_in}
 use Rattle.selection.specs.inner.Met.{all_met}
 use Rattle.selection.proofs.Completeness.{all_met_says, are_enough}
 use Rattle.selection.proofs.rounds.reach.Goals as goal

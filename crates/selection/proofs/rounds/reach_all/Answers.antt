@@ -1,8 +1,7 @@
 use Rattle.std.proofs.Common.{rules, ◌≡◌, map, [], true, false, refl, sym, ◌∙◌, true≢false}
 use Rattle.facts.specs.inner.Graphs.{node_views}
-use Rattle.catalogue.specs.Problems.{problem_in}
+use Rattle.catalogue.specs.Problems.{preferred_in, problem_in}
 use Rattle.selection.specs.inner.Contents.{owners_of}
-use Rattle.selection.specs.Preferred.{preferred_in}
 use Rattle.selection.specs.inner.Met.{all_met}
 use Rattle.selection.proofs.Completeness.{all_met_says, are_enough, if_all_met, met_if_complete}
 use Rattle.selection.proofs.rounds.reach_all.Goals as goal

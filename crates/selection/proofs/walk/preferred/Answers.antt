@@ -3,10 +3,9 @@ use Rattle.model.specs.Selection.{IsValidSelection}
 use Rattle.model.specs.Walk.{Picks}
 use Rattle.model.proofs.Unique.{one_content}
 use Rattle.facts.specs.inner.Graphs.{node_views}
-use Rattle.catalogue.specs.Problems.{problem_in}
-use Rattle.facts.specs.Built.{IsBuilt}
+use Rattle.catalogue.specs.Problems.{preferred_in, problem_in}
+use Rattle.facts.specs.inner.Built.{IsBuilt}
 use Rattle.selection.specs.inner.Contents.{owners_of}
-use Rattle.selection.specs.Preferred.{preferred_in}
 use Rattle.selection.specs.inner.Rounds.{IsReached, Reaches}
 use Rattle.selection.proofs.walk.preferred.Goals as goal
 

@@ -3,7 +3,7 @@ use Rattle.std.proofs.lemmas.Result.{IfOk-weaker}
 use Rattle.facts.specs.inner.Graphs.{node_views}
 use Rattle.propagation.specs.Trails.{trail_view}
 use Rattle.model.specs.inner.Search.{LeadsTo}
-use Rattle.facts.specs.Built.{IsBuilt}
+use Rattle.facts.specs.inner.Built.{IsBuilt}
 use Rattle.facts.specs.inner.Nodes.{AreFlags}
 use Rattle.facts.proofs.Found.{stands}
 use Rattle.numbering.specs.inner.KnownProblem.{problem}

@@ -1,6 +1,5 @@
 use Rattle.std.proofs.Common.{arith}
-use Rattle.catalogue.specs.Problems.{problem_in}
-use Rattle.selection.specs.Preferred.{preferred_in}
+use Rattle.catalogue.specs.Problems.{preferred_in, problem_in}
 use Rattle.solver.proofs.Counted.{combined_counted}
 use Rattle.solver.proofs.Followed.{can_follow, same_answer, solved}
 use Rattle.solver.proofs.Stepped.{stepped}

@@ -1,7 +1,7 @@
 use Rattle.std.proofs.lemmas.Result.{IfOk-weaker}
 use Rattle.model.specs.Derivation.{IsAccepted}
 use Rattle.numbering.specs.inner.KnownProblem.{problem}
-use Rattle.solver.specs.Solving.{IsUnsolvable}
+use Rattle.model.specs.Selected.{IsUnsolvable}
 use Rattle.solver.proofs.solving.why_unsolvable.Goals as goal
 
 pub returns-clause-unsolvable : goal.returns-clause-unsolvable

@@ -1,16 +1,12 @@
 -- The owners that are found to be here, each with those to which its enabled dependencies lead, and the content that is
 -- built of them.
-use Rattle.std.specs.Prelude.{◌≡◌, ◌≢◌, ◌↔◌, ℕ, List, Bool, true, None, Some, length, slice_get, Contains}
+use Rattle.std.specs.Prelude.{◌≡◌, ◌≢◌, ◌↔◌, ℕ, List, Bool, true, Some, length, slice_get, Contains}
 use Rattle.std.specs.List.{AllPairs}
-use Rattle.model.specs.Content.{Package, Content, Problem, is_root}
+use Rattle.model.specs.Content.{Package, Content, Problem}
 use Rattle.model.specs.WellFormed.{IsContent}
 use Rattle.model.specs.Vertices.{Owner}
 use Rattle.model.specs.inner.ContentOf.{Kept, package_of}
 use Rattle.facts.specs.inner.Graphs.{NodeView, flag_at, flag_in, target_at}
-
--- the root has no checksum
-abbrev pub HasBareRoot : Problem → Content → Type 0
-HasBareRoot q content = (n : ℕ) (p : Package) → slice_get content n ≡ Some p → is_root q p ≡ true → p.checksum ≡ None
 
 module _ (owners : List Owner) (nodes : List NodeView) (are_enabled : List (List Bool)) where
   -- some enabled dependency of place n leads to place t
