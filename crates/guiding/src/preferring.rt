@@ -12,6 +12,7 @@ use numbering::{KnownProblem, Table, class_number, dependency_at};
 use propagation::Trail;
 use std::alloc::{AllocError, Global};
 use std::collections::HashMap;
+use std::mem;
 use version_sets::States;
 use vertices::VertexRef;
 
@@ -25,6 +26,8 @@ pub(crate) struct Preferences<'a> {
     orders: HashMap<&'a PackageName, Vec<u32>>,
     /// By the number of a vertex.
     ranked: HashMap<usize, Ranked>,
+    /// The numbers of the vertices that were decided since level 0 was met last: of each, states may be gone for good.
+    decided: Vec<usize>,
 }
 
 /// The first states, the most preferred first.
@@ -35,6 +38,8 @@ struct Ranked {
     from: usize,
     /// They are those of so many candidates. The next ones are looked at once all these states are gone.
     taken: usize,
+    /// Whether the vertex stands among those that were decided.
+    is_listed: bool,
 }
 
 /// What a vertex is decided among.
@@ -52,6 +57,7 @@ impl<'a> Preferences<'a> {
         Preferences {
             orders: HashMap::new(alloc),
             ranked: HashMap::new(alloc),
+            decided: Vec::new(alloc),
         }
     }
 
@@ -73,25 +79,51 @@ impl<'a> Preferences<'a> {
         if number >= vertices {
             return Ok(());
         }
-        let left = trail.states(number);
         // Nothing comes back at level 0.
         if trail.level() == 0 {
-            self.pass_over(number, left);
+            self.pass_over(alloc, trail, vertices);
         }
-        if self.first_left(number, left).is_some() {
-            return Ok(());
+        let left = trail.states(number);
+        if self.first_left(number, left).is_none() {
+            if let Some(vertex) = table.vertex(number) {
+                self.go_on(alloc, known, &vertex, number, left)?;
+            }
         }
-        match table.vertex(number) {
-            Some(vertex) => self.go_on(alloc, known, &vertex, number, left),
-            None => Ok(()),
+        self.list(number)
+    }
+
+    /// Passes over the states that are gone, of the vertices that were decided.
+    ///
+    /// A vertex that is decided at a higher level each time loses its states at level 0 too, so it doesn't do to look
+    /// at the one that is decided now.
+    fn pass_over<S: States + Drop>(&mut self, alloc: Global, trail: &Trail<S>, vertices: usize)
+        requires { vertices ≡ length (trail_view S.tests trail.now).sets }
+    {
+        let decided = mem::replace(&mut self.decided, Vec::new(alloc));
+        'decided: for number in decided {
+            if number < vertices {
+                self.pass_over_first(number, trail.states(number));
+            }
         }
     }
 
-    /// Passes over the first states of a vertex that are gone.
-    fn pass_over<S: States>(&mut self, number: usize, left: &S) {
+    /// Passes over the first states of a vertex that are gone, and takes it from those that were decided.
+    fn pass_over_first<S: States>(&mut self, number: usize, left: &S) {
         if let Some(ranked) = self.ranked.get_mut(&number) {
             ranked.from = first_place(ranked.states.as_slice(), ranked.from, left);
+            ranked.is_listed = false;
         }
+    }
+
+    /// Lists a vertex among those that were decided.
+    fn list(&mut self, number: usize) -> Result<(), AllocError> {
+        if let Some(ranked) = self.ranked.get_mut(&number) {
+            if !ranked.is_listed {
+                ranked.is_listed = true;
+                self.decided.push(number)?;
+            }
+        }
+        Ok(())
     }
 
     /// Keeps more states of a vertex, up to the first that is left.
@@ -132,6 +164,7 @@ impl<'a> Preferences<'a> {
                 states,
                 from: 0,
                 taken: 0,
+                is_listed: false,
             };
             self.ranked.insert(number, none)?;
         }
