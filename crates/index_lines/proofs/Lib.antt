@@ -2,7 +2,7 @@ pub mod ReadLemmas
 pub mod PartLemmas
 pub mod CutLemmas
 pub mod WrittenLemmas
-pub mod MadeLemmas
+pub mod SameLemmas
 pub mod KnownLemmas
 pub mod RisingLemmas
 pub mod ByPartsLemmas

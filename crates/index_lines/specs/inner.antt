@@ -1,6 +1,6 @@
 pub mod PartMembers
 pub mod ShapeViews
-pub mod Made
+pub mod Names
 pub mod Known
 pub mod ByParts
 pub mod Items

@@ -21,7 +21,6 @@ mod fault;
 mod known;
 mod known_requirements;
 mod line;
-mod made;
 mod parts;
 mod record;
 mod required;

@@ -7,7 +7,6 @@ ghost use Rattle.index_lines.specs.Views.{record_view};
 
 use crate::fault::LineFault;
 use crate::known::KnownDependencies;
-use crate::made::TableBefore;
 use crate::record::Record;
 use crate::shortcuts::{PartsBefore, record_by_parts};
 use crate::whole::read_whole;
@@ -20,21 +19,17 @@ use trees::Scratch;
 pub struct LineBefore<'a> {
     /// What its parts said, for a line that is written as a registry's; none are kept where there is no next line.
     parts: Option<PartsBefore<'a>>,
-    /// The table of a line that was read as a whole.
-    table: TableBefore,
 }
 
 impl<'a> LineBefore<'a> {
     /// No line yet of a file of so many lines, the last of which may be empty.
     pub fn none(lines: usize) -> LineBefore<'a> {
-        let has_next = lines > 2;
         LineBefore {
-            parts: if has_next {
+            parts: if lines > 2 {
                 Some(PartsBefore::none())
             } else {
                 None
             },
-            table: TableBefore::none(has_next),
         }
     }
 }
@@ -57,5 +52,5 @@ pub fn read_unchecked<'a>(
     if let Some(record) = record_by_parts(alloc, name, line, scratch, known, &mut before.parts)? {
         return Ok(record);
     }
-    read_whole(alloc, name, line, scratch, known, &mut before.table)
+    read_whole(alloc, name, line, scratch, known)
 }

@@ -13,12 +13,12 @@ ghost use Rattle.index_lines.specs.Views.{record_view, required_views};
 
 use crate::fault::{LineFault, SkipReason};
 use crate::known::KnownDependencies;
-use crate::made::{TableBefore, features_after};
 use crate::record::Record;
 use crate::required::{Required, dependency, is_of_index, part_required};
 use crate::shape::{DependencyShape, LineShape, read_shape};
 use crate::texts::{check, version};
 use crate::values::read_json;
+use crate::written::features;
 use features::{Dependency, PackageName, Summary};
 use std::alloc::Global;
 use trees::{Scratch, root};
@@ -31,13 +31,12 @@ pub(crate) fn read_whole(
     line: &[u8],
     scratch: &mut Scratch,
     known: &mut KnownDependencies,
-    before: &mut TableBefore,
 ) -> Result<Record, LineFault>
     ensures { Gives wants_memory record_view result (unchecked_of_line name.now line.now) }
 {
     let tape = read_json(alloc, line, scratch)?;
     let shape = read_shape(alloc, &root(&tape))?;
-    record_in(alloc, name, &shape, known, before)
+    record_in(alloc, name, &shape, known)
 }
 
 #[tactic(auto, unfolding(crate::specs::Records::unchecked_of_shape))]
@@ -46,7 +45,6 @@ fn record_in(
     name: &PackageName,
     shape: &LineShape<'_>,
     known: &mut KnownDependencies,
-    before: &mut TableBefore,
 ) -> Result<Record, LineFault>
     ensures { Gives wants_memory record_view result (unchecked_of_shape name.now (shape_view shape.now)) }
 {
@@ -58,7 +56,7 @@ fn record_in(
     let version = version(alloc, shape.version)?;
     let parts = requirements(alloc, &shape.dependencies, known)?;
     let dependencies = dependencies(alloc, parts, known)?;
-    let features = features_after(alloc, shape, before)?;
+    let features = features(alloc, shape)?;
     check_registries(&shape.dependencies)?;
     Ok(Record {
         version,

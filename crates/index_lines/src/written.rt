@@ -28,18 +28,14 @@ use features::{
 use std::alloc::{AllocError, Global};
 use std::collections::BTreeMap;
 
-/// The feature table of a line whose dependencies are called so.
+/// The feature table of a line.
 #[tactic(auto, unfolding(crate::specs::Written::features_of))]
-pub(crate) fn features(
-    alloc: Global,
-    line: &LineShape<'_>,
-    names: &[DepName],
-) -> Result<FeatureTable, LineFault>
-    requires { dep_names_view names.now ≡ dep_names_of (line_dependency_views line.now.dependencies.items) }
+pub(crate) fn features(alloc: Global, line: &LineShape<'_>) -> Result<FeatureTable, LineFault>
     ensures { Gives wants_memory (λ t. t) result (features_of (shape_view line.now)) }
 {
+    let names = dep_names(alloc, &line.dependencies)?;
     let written = written(alloc, line)?;
-    table(alloc, names, shared(alloc, written)?)
+    table(alloc, &names, shared(alloc, written)?)
 }
 
 /// The feature table of features with no further ones, where dependencies are called so.
@@ -207,7 +203,7 @@ pub(crate) fn feature_name(alloc: Global, text: &str) -> Result<FeatureName, Lin
 }
 
 /// What the dependencies are called, of whatever kind.
-pub(crate) fn dep_names(
+fn dep_names(
     alloc: Global,
     dependencies: &[DependencyShape<'_>],
 ) -> Result<Vec<DepName>, AllocError>

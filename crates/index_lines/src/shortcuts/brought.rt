@@ -1,18 +1,19 @@
 //! What a line brings, where its dependencies and features are read on their own.
 
-ghost use Rattle.std.specs.Prelude.{◌≡◌, [], IfOk, IfSome, Ok, true};
+ghost use Rattle.std.specs.Prelude.{◌≡◌, [], IfOk, IfSome, IsTrue, Ok, true};
 ghost use Rattle.std.proofs.Props.{props};
+ghost use Rattle.std.specs.List.{list_all, zip};
 ghost use Rattle.model.specs.Outcome.{Gives};
-ghost use Rattle.features.specs.inner.Tables.{dep_names_view};
+ghost use Rattle.features.specs.inner.Tables.{dep_name_view, dep_names_view};
 ghost use Rattle.features.specs.Views.{dependency_views};
 ghost use Rattle.trees.specs.inner.Parts.{keys_rise};
 ghost use Rattle.index_lines.specs.Shapes.{wants_memory};
 ghost use Rattle.index_lines.specs.inner.ByParts.{dependencies_of_bytes, table_of_bytes};
+ghost use Rattle.index_lines.specs.inner.Names.{same_name};
 ghost use Rattle.index_lines.specs.inner.Rows.{braced, row_texts, row_views};
 
 use crate::fault::LineFault;
 use crate::known::KnownDependencies;
-use crate::made::are_names;
 use crate::parts::unless_null;
 use crate::shape::features_if_any;
 use crate::shortcuts::item::ItemRead;
@@ -241,4 +242,26 @@ impl<'a> Brought<'a> {
             features: self.table.clone()?,
         })
     }
+}
+
+/// Whether these names are the same, and the same of them optional.
+fn are_names(known: &[DepName], names: &[DepName]) -> bool
+    ensures { IsTrue result → dep_names_view known.now ≡ dep_names_view names.now }
+{
+    known.len() == names.len() && all_names(known, names)
+}
+
+fn all_names(known: &[DepName], names: &[DepName]) -> bool
+    ensures { result ≡ list_all (λ p. same_name (dep_name_view p.0) (dep_name_view p.1)) (zip known.now names.now) }
+{
+    known
+        .iter()
+        .zip(names)
+        .all(|(known, name)| is_name(known, name))
+}
+
+fn is_name(known: &DepName, name: &DepName) -> bool
+    ensures { result ≡ same_name (dep_name_view known.now) (dep_name_view name.now) }
+{
+    known.name == name.name && known.optional == name.optional
 }

@@ -1,7 +1,7 @@
 use Rattle.std.proofs.Common.{◌∙◌}
 use Rattle.features.specs.inner.NameTexts.{text_bytes}
 use Rattle.model.specs.Summary.{same_text}
-use Rattle.index_lines.proofs.MadeLemmas.{by_place}
+use Rattle.index_lines.proofs.SameLemmas.{by_place}
 use Rattle.index_lines.proofs.texts.are_texts.Goals as goal
 
 pub returns-then-known-texts : goal.returns-then-known-texts

@@ -4,7 +4,7 @@ use Rattle.index_lines.specs.inner.Known.{same_parts}
 use Rattle.index_lines.specs.inner.ShapeViews.{part_view}
 use Rattle.model.proofs.Same.{text-same}
 use Rattle.index_lines.proofs.KnownLemmas.{says}
-use Rattle.index_lines.proofs.MadeLemmas.{texts-same}
+use Rattle.index_lines.proofs.SameLemmas.{texts-same}
 use Rattle.index_lines.proofs.known.MadeDependency.is_of.Goals as goal
 
 pub returns : goal.returns

@@ -1,8 +1,8 @@
 use Rattle.std.proofs.Common.{sym, ◌∙◌}
 use Rattle.features.specs.inner.Tables.{dep_name_view}
-use Rattle.index_lines.specs.inner.Made.{same_name}
-use Rattle.index_lines.proofs.MadeLemmas.{by_place, names-same}
-use Rattle.index_lines.proofs.made.are_names.Goals as goal
+use Rattle.index_lines.specs.inner.Names.{same_name}
+use Rattle.index_lines.proofs.SameLemmas.{by_place, names-same}
+use Rattle.index_lines.proofs.shortcuts.brought.are_names.Goals as goal
 
 pub returns-then-known-names : goal.returns-then-known-names
 returns-then-known-names c h =

@@ -1,17 +1,14 @@
--- What is kept of a line is what a line says, where it tests as the same; then both lines have the same table.
-use Rattle.std.proofs.Common.{◌≡◌, ℕ, suc, List, [], ◌∷◌, Bool, true, ◌&&◌, length, map, Ok, refl, sym, ap, ap₂, ◌∙◌}
+-- What is kept of a line is what a line says, where it tests as the same.
+use Rattle.std.proofs.Common.{◌≡◌, ℕ, suc, List, [], ◌∷◌, Bool, true, ◌&&◌, length, map, refl, sym, ap, ap₂}
 use Rattle.std.proofs.Common.{arith, true≢false}
 use Rattle.std.specs.Bool.{beq}
 use Rattle.std.specs.Cmp.{booleans_Decides}
 use Rattle.std.specs.Cmp.Lexicographic.{pointwise}
 use Rattle.std.specs.List.{list_all, zip}
-use Rattle.model.specs.Outcome.{◌>>=◌}
-use Rattle.model.specs.Summary.{Table, same_text}
-use Rattle.model.specs.Tables.{DepName, table_of}
+use Rattle.model.specs.Summary.{same_text}
+use Rattle.model.specs.Tables.{DepName}
 use Rattle.model.proofs.Same.{both, text-same}
-use Rattle.index_lines.specs.Shapes.{FeatureView, ShapeView}
-use Rattle.index_lines.specs.inner.Made.{same_name, same_feature, Makes}
-use Rattle.index_lines.specs.Written.{dep_names_of, features_of, with_features, unless_faulty}
+use Rattle.index_lines.specs.inner.Names.{same_name}
 
 -- lists of one length are the same where they are place by place
 pub by_place : {X Y V : Type 0} (f : X → V) (g : Y → V) (same : V → V → Bool) (xs : List X) (ys : List Y)
@@ -41,26 +38,8 @@ name-same a b h =
     built : a.name ≡ b.name → a.optional ≡ b.optional → a ≡ b
     built n o = λ i. record { name = n i; optional = o i }
 
-feature-same : (a b : FeatureView) → same_feature a b ≡ true → a ≡ b
-feature-same a b h =
-    let t = both (same_text a.name b.name) (pointwise same_text a.entries b.entries) h in
-    built (text-same a.name b.name t.0) (lists-same same_text text-same a.entries b.entries t.1)
-  where
-    built : a.name ≡ b.name → a.entries ≡ b.entries → a ≡ b
-    built n e = λ i. record { name = n i; entries = e i }
-
 pub texts-same : (xs ys : List (List ℕ)) → pointwise same_text xs ys ≡ true → xs ≡ ys
 texts-same = lists-same same_text text-same
 
-pub features-same : (fs gs : List FeatureView) → pointwise same_feature fs gs ≡ true → fs ≡ gs
-features-same = lists-same same_feature feature-same
-
 pub names-same : (ds es : List DepName) → pointwise same_name ds es ≡ true → ds ≡ es
 names-same = lists-same same_name name-same
-
--- what makes the table of a line makes that of each line
-pub makes : (t : ShapeView) (table : Table) → features_of t ≡ Ok table
-    → Makes (dep_names_of t.dependencies) t.features t.features2 table
-unfolding features_of
-makes t table is s ds fs gs =
-    (λ i. (with_features [] (fs i) >>= λ w. with_features w (gs i)) >>= λ w. unless_faulty (table_of (ds i) w)) ∙ is
