@@ -1,12 +1,18 @@
 -- Lists of words of which a front has been worked on.
-use Rattle.std.proofs.Common.{◌≡◌, ℕ, zero, suc, ◌+◌, ◌<◌, ◌≤◌, List, [], ◌∷◌, ◌++◌}
-use Rattle.std.proofs.Common.{length, take, drop, get_or, set, map, refl, ap, sym, ◌∙◌, arith}
+use Rattle.std.proofs.Common.{◌≡◌, ℕ, zero, suc, ◌+◌, ◌<◌, ◌≤◌, Bool, true, false, ◌&&◌, eqb, List, [], ◌∷◌, ◌++◌}
+use Rattle.std.proofs.Common.{length, take, drop, get_or, set, map, bit_and, bit_or, refl, ap, ap₂, sym, ◌∙◌, arith}
+use Rattle.std.proofs.Common.{eq-eqb, inl, inr}
+use Rattle.std.proofs.Math.Bool.{and-true}
 use Rattle.std.proofs.Math.Seq.{drop-cons}
+use Rattle.std.proofs.lemmas.Bool.{cases_eq, ne_eqb}
 use Rattle.std.proofs.lemmas.List.{length-map, length-take}
-use Rattle.std.proofs.lemmas.Simd.{length-zip2, put_chunk_is}
+use Rattle.std.proofs.lemmas.Nat.{and_le_l, and_le_r}
+use Rattle.std.specs.Int.{bit_not, w64}
+use Rattle.std.specs.Int.Bits.{or_add_and}
+use Rattle.std.proofs.lemmas.Simd.{chunk-drop, length-chunk, length-zip2, put_chunk_is}
 use Rattle.std.specs.Int.RustNames.{count_ones}
-use Rattle.std.specs.Simd.Lanes.{chunk, put_chunk, zip2}
-use Rattle.version_sets.specs.inner.Words.{ones_in}
+use Rattle.std.specs.Simd.Lanes.{chunk, fold_l, put_chunk, zip2}
+use Rattle.version_sets.specs.inner.Words.{all_zero, and_not, ones_in}
 
 module _ (f : ℕ → ℕ → ℕ) where
   -- the words of a, with f of b's up to n, and as they were from there on
@@ -39,6 +45,48 @@ module _ (f : ℕ → ℕ → ℕ) where
       let more : suc n + 1 ≡ suc (n + 1) = omega arith in
       rw more (ap (λ l. f x y ∷ l) (word_step n xs ys (omega arith) (omega arith)))
 
+  -- the words from n on, against all of them
+  zip2-append : (xs ys us vs : List ℕ) → length xs ≡ length ys
+      → zip2 f (xs ++ us) (ys ++ vs) ≡ zip2 f xs ys ++ zip2 f us vs
+  zip2-append [] [] us vs e = refl
+  zip2-append [] (y ∷ ys) us vs e = absurd (omega arith)
+  zip2-append (x ∷ xs) [] us vs e = absurd (omega arith)
+  zip2-append (x ∷ xs) (y ∷ ys) us vs e = ap (λ l. f x y ∷ l) (zip2-append xs ys us vs (omega arith))
+
+  zeros-append : (xs ys : List ℕ) → all_zero (xs ++ ys) ≡ (all_zero xs && all_zero ys)
+  zeros-append [] ys = refl
+  zeros-append (x ∷ xs) ys = step (eqb x 0) (zeros-append xs ys)
+    where
+      step : (t : Bool) → all_zero (xs ++ ys) ≡ (all_zero xs && all_zero ys)
+          → (t && all_zero (xs ++ ys)) ≡ ((t && all_zero xs) && all_zero ys)
+      step true e = e
+      step false e = refl
+
+  pub zeros_block : (i : ℕ) (a b : List ℕ) → i + 8 ≤ length a → length a ≡ length b
+      → all_zero (zip2 f (drop i a) (drop i b))
+      ≡ (all_zero (zip2 f (chunk i 8 a) (chunk i 8 b)) && all_zero (zip2 f (drop (i + 8) a) (drop (i + 8) b)))
+  zeros_block i a b room same =
+      ap₂ (λ x y. all_zero (zip2 f x y)) (chunk-drop i 8 a) (chunk-drop i 8 b)
+      ∙ ap all_zero (zip2-append (chunk i 8 a) (chunk i 8 b) (drop (i + 8) a) (drop (i + 8) b)
+      (length-chunk i 8 a room ∙ sym (length-chunk i 8 b (omega arith))))
+      ∙ zeros-append (zip2 f (chunk i 8 a) (chunk i 8 b)) (zip2 f (drop (i + 8) a) (drop (i + 8) b))
+
+  -- a block is all zero, or not
+  pub block_more : (i j : ℕ) (a b : List ℕ) (t whole : Bool) → j ≡ i + 8 → i + 8 ≤ length a → length a ≡ length b
+      → t ≡ all_zero (zip2 f (chunk i 8 a) (chunk i 8 b)) → t ≡ true → all_zero (zip2 f (drop i a) (drop i b)) ≡ whole
+      → all_zero (zip2 f (drop j a) (drop j b)) ≡ whole
+  block_more i j a b t whole next room same is passed so_far =
+      ap (λ k. all_zero (zip2 f (drop k a) (drop k b))) next
+      ∙ sym (ap (λ x. x && all_zero (zip2 f (drop (i + 8) a) (drop (i + 8) b))) (sym is ∙ passed))
+      ∙ sym (zeros_block i a b room same) ∙ so_far
+
+  pub block_fails : (i : ℕ) (a b : List ℕ) (t whole : Bool) → i + 8 ≤ length a → length a ≡ length b
+      → t ≡ all_zero (zip2 f (chunk i 8 a) (chunk i 8 b)) → t ≡ false
+      → all_zero (zip2 f (drop i a) (drop i b)) ≡ whole → false ≡ whole
+  block_fails i a b t whole room same is failed so_far =
+      sym (ap (λ x. x && all_zero (zip2 f (drop (i + 8) a) (drop (i + 8) b))) (sym is ∙ failed))
+      ∙ sym (zeros_block i a b room same) ∙ so_far
+
 module _ (f : ℕ → ℕ) where
   abbrev pub turned_to : ℕ → List ℕ → List ℕ
   turned_to n a = map f (take n a) ++ drop n a
@@ -62,6 +110,36 @@ module _ (f : ℕ → ℕ) where
   turn_word (suc n) (x ∷ xs) room =
       let more : suc n + 1 ≡ suc (n + 1) = omega arith in
       rw more (ap (λ l. f x ∷ l) (turn_word n xs (omega arith)))
+
+-- the lanes joined are 0 where each is
+or_zero : (a b : ℕ) → eqb (bit_or a b) 0 ≡ (eqb a 0 && eqb b 0)
+or_zero a b = elim (cases_eq a 0) [
+  | inl e ↦ elim (cases_eq b 0) [
+    | inl s ↦ eq-eqb (bit_or a b) 0 (omega (arith, or_add_and a b))
+        ∙ sym (ap₂ (λ x y. x && y) (eq-eqb a 0 e) (eq-eqb b 0 s))
+    | inr o ↦ ne_eqb (bit_or a b) 0
+        (λ (z : bit_or a b ≡ 0). o (omega (arith, or_add_and a b, and_le_l a b, and_le_r a b)))
+        ∙ sym (ap₂ (λ x y. x && y) (eq-eqb a 0 e) (ne_eqb b 0 o))
+  ]
+  | inr o ↦ ne_eqb (bit_or a b) 0 (λ (z : bit_or a b ≡ 0).
+      o (omega (arith, or_add_and a b, and_le_l a b, and_le_r a b))) ∙ sym (ap (λ x. x && eqb b 0) (ne_eqb a 0 o))
+]
+
+folded : (a : ℕ) (xs : List ℕ) → eqb (fold_l bit_or a xs) 0 ≡ (eqb a 0 && all_zero xs)
+folded a [] = sym (and-true (eqb a 0))
+folded a (x ∷ xs) = folded (bit_or a x) xs ∙ ap (λ b. b && all_zero xs) (or_zero a x) ∙ and_assoc (eqb a 0)
+  where
+    and_assoc : (b : Bool) → ((b && eqb x 0) && all_zero xs) ≡ (b && (eqb x 0 && all_zero xs))
+    and_assoc true = refl
+    and_assoc false = refl
+
+pub lanes_zero : (xs : List ℕ) → eqb (fold_l bit_or 0 xs) 0 ≡ all_zero xs
+lanes_zero xs = folded 0 xs
+
+pub not_lanes : (xs ys : List ℕ) → zip2 bit_and xs (map (bit_not w64) ys) ≡ zip2 and_not xs ys
+not_lanes [] ys = refl
+not_lanes (x ∷ xs) [] = refl
+not_lanes (x ∷ xs) (y ∷ ys) = ap (λ l. and_not x y ∷ l) (not_lanes xs ys)
 
 -- counting
 pub ones_more : (i : ℕ) (ws : List ℕ) (total : ℕ) (w : ℕ) → i < length ws → w ≡ get_or ws i 0

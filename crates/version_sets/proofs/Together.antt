@@ -1,17 +1,19 @@
 -- The words of two windows over one universe, put together and compared.
-use Rattle.std.proofs.Common.{◌≡◌, ◌≢◌, ℕ, ◌+◌, ◌-◌, ◌<◌, ◌≤◌, Bool, true, false, length, get_or, ap, ap₂}
-use Rattle.std.proofs.Common.{refl, sym, ◌∙◌, subst, arith, min, inl, inr}
-use Rattle.std.proofs.lemmas.Bool.{cases_lt}
+use Rattle.std.proofs.Common.{◌≡◌, ◌↔◌, ℕ, ◌+◌, ◌-◌, ◌<◌, ◌≤◌, Bool, true, false, List, length, drop, get_or, ap, ap₂}
+use Rattle.std.proofs.Common.{sym, ◌∙◌, subst, arith, min, inl, inr}
+use Rattle.std.proofs.lemmas.Bool.{cases_lt, false≢true}
+use Rattle.std.proofs.lemmas.List.{length-take}
 use Rattle.std.proofs.lemmas.Simd.{get_or-zip2, length-chunk, length-zip2}
+use Rattle.std.specs.Prelude.{IsTrue}
 use Rattle.std.specs.Simd.Lanes.{chunk, zip2}
 use Rattle.version_sets.specs.declared.window.Window.{Window}
-use Rattle.version_sets.specs.inner.Forms.{IsHull, IsHullAndEnds, all_words}
+use Rattle.version_sets.specs.inner.Forms.{IsHull, IsHullAndEnds, IsNothingAt, IsOverlap, Keeps, all_words}
 use Rattle.version_sets.specs.inner.Windows.{flank_word, spread, words_for}
 use Rattle.version_sets.specs.inner.Words.{all_zero}
-use Rattle.version_sets.proofs.Bits.{zeros_at, zeros_from}
+use Rattle.version_sets.proofs.Bits.{both_ways, zeros_at, zeros_from}
 use Rattle.version_sets.proofs.Flanks.{IsBitwise, flank_zero, flanks_are}
 use Rattle.version_sets.proofs.Kept.{window_long}
-use Rattle.version_sets.proofs.Spreads.{of_flanked, zip_spread}
+use Rattle.version_sets.proofs.Spreads.{chunk_at, of_flanked, zip_spread}
 
 module _ (a b : Window) (from to : ℕ) (same : a.universe ≡ b.universe) (h : IsHull a b from to) where
   within_b : to ≤ words_for b.universe
@@ -79,7 +81,7 @@ module _ (f : ℕ → ℕ → ℕ) (g : Bool → Bool → Bool) (is : IsBitwise 
       ∙ flanks_are f g is a.universe a.high b.high k
 
   -- if the words from one place on and below the other are 0, then all are
-  each_zero : ((k : ℕ) → from ≤ k → k < to → both_at k ≡ 0) → (k : ℕ) → k < words_for a.universe → both_at k ≡ 0
+  each_zero : IsNothingAt f a b from to → (k : ℕ) → k < words_for a.universe → both_at k ≡ 0
   each_zero zero k low =
       let rising : h.first ≤ h.last = h.hull.rising in
       let within : h.last ≤ words_for a.universe = h.hull.within in
@@ -95,19 +97,84 @@ module _ (f : ℕ → ℕ → ℕ) (g : Bool → Bool → Bool) (is : IsBitwise 
         ]
       ]
 
-  pub all_zeros : ((k : ℕ) → from ≤ k → k < to → both_at k ≡ 0) → true ≡ all_zero (zip2 f (all_words a) (all_words b))
-  all_zeros zero = sym (zeros_from (zip2 f (all_words a) (all_words b)) (λ k low.
+  all_zeros : IsNothingAt f a b from to → all_zero (zip2 f (all_words a) (all_words b)) ≡ true
+  all_zeros zero = zeros_from (zip2 f (all_words a) (all_words b)) (λ k low.
       (let fits : k < words_for a.universe = omega (arith, zipped_long) in
-      zipped_at k fits ∙ each_zero zero k fits)))
+      zipped_at k fits ∙ each_zero zero k fits))
 
-  pub a_bit : (k : ℕ) → k < to → both_at k ≢ 0 → false ≡ all_zero (zip2 f (all_words a) (all_words b))
-  a_bit k low some = by (all_zero (zip2 f (all_words a) (all_words b))) refl
+  -- a test of some of these places, where the others are 0 anyhow
+  pub tested_between : (t : Bool) (i j : ℕ) → (IsTrue t ↔ IsNothingAt f a b i j) → j ≤ to
+      → (IsNothingAt f a b i j → IsNothingAt f a b from to) → t ≡ all_zero (zip2 f (all_words a) (all_words b))
+  tested_between t i j is within others = both_ways t (all_zero (zip2 f (all_words a) (all_words b)))
+      (λ yes. all_zeros (others (is.0 yes)))
+      (λ yes. is.1 (λ k past low.
+      (let fits : k < words_for a.universe = omega (arith, h.to_is) in
+      sym (zipped_at k fits)
+      ∙ zeros_at (zip2 f (all_words a) (all_words b)) k yes (omega (arith, zipped_long)))))
+
+-- the places that both windows keep, and those before and behind them
+pub part_fails : {P Q : Type 0} (t : Bool) → (IsTrue t ↔ P) → t ≡ false → (Q → P) → IsTrue false ↔ Q
+part_fails t is failed part = ((λ yes. absurd (false≢true yes)), (λ whole. sym failed ∙ is.1 (part whole)))
+
+kept_long : (w : Window) (first end : ℕ) → Keeps w first end
+    → length (chunk first (end - first) (all_words w)) ≡ end - first
+kept_long w first end keeps = elim (cases_lt first end) [
+  | inl some ↦ length-chunk first (end - first) (all_words w)
+      (omega (arith, keeps.to some, w.ends, window_long w))
+  | inr none ↦ omega (arith, length-take (end - first) (drop first (all_words w)))
+]
+
+module _ (f : ℕ → ℕ → ℕ) (a b : Window) (from to first end : ℕ) (o : IsOverlap a b from to first end) where
+  pub nothing_before : IsNothingAt f a b from to → IsNothingAt f a b from first
+  nothing_before whole k past low = whole k past (omega (arith, o.rising, o.below))
+
+  pub nothing_behind : IsNothingAt f a b from to → IsNothingAt f a b end to
+  nothing_behind whole k past low = whole k (omega (arith, o.above (omega (arith, o.rising)), o.rising)) low
+
+  nothing_kept : IsNothingAt f a b from to → IsNothingAt f a b first end
+  nothing_kept whole k past low = whole k (omega (arith, o.above (omega (arith, o.below)))) (omega (arith, o.below))
+
+  abbrev kept : Window → List ℕ
+  kept w = chunk first (end - first) (all_words w)
+
+  kept_at : (k : ℕ) → first ≤ k → k < end
+      → get_or (zip2 f (kept a) (kept b)) (k - first) 0 ≡ f (get_or (all_words a) k 0) (get_or (all_words b) k 0)
+  kept_at k past low =
+      let within : k - first < end - first = omega arith in
+      let place : first + (k - first) ≡ k = omega arith in
+      get_or-zip2 f (kept a) (kept b) (k - first) 0 0 0 (omega (arith, kept_long a first end o.of_first))
+      (omega (arith, kept_long b first end o.of_second))
+      ∙ ap₂ f
+      (chunk_at first (end - first) (all_words a) (k - first) within ∙ ap (λ i. get_or (all_words a) i 0) place)
+      (chunk_at first (end - first) (all_words b) (k - first) within ∙ ap (λ i. get_or (all_words b) i 0) place)
+
+  same_kept : length (kept a) ≡ length (kept b)
+  same_kept = kept_long a first end o.of_first ∙ sym (kept_long b first end o.of_second)
+
+  pub kept_fit : (us vs : List ℕ) → us ≡ kept a → vs ≡ kept b → length us ≡ length vs
+  kept_fit us vs us_are vs_are = ap length us_are ∙ same_kept ∙ sym (ap length vs_are)
+
+  zipped_kept : length (zip2 f (kept a) (kept b)) ≡ end - first
+  zipped_kept = length-zip2 f (kept a) (kept b) same_kept ∙ kept_long a first end o.of_first
+
+  -- nothing before the kept places and behind them: then they decide
+  pub kept_decide : (us vs : List ℕ) (t : Bool) → us ≡ kept a → vs ≡ kept b → t ≡ all_zero (zip2 f us vs)
+      → IsNothingAt f a b from first → IsNothingAt f a b end to → IsTrue t ↔ IsNothingAt f a b from to
+  kept_decide us vs t us_are vs_are t_is before behind = (
+    (λ yes k past low. elim (cases_lt k first) [
+      | inl here ↦ before k past here
+      | inr later ↦ elim (cases_lt k end) [
+        | inl here ↦ sym (kept_at k later here)
+            ∙ zeros_at (zip2 f (kept a) (kept b)) (k - first) (sym is ∙ yes) (omega (arith, zipped_kept))
+        | inr far ↦ behind k far low
+      ]
+    ]),
+    (λ whole. is ∙ zeros_from (zip2 f (kept a) (kept b)) (λ j low.
+        (let place : first + j - first ≡ j = omega arith in
+        ap (λ i. get_or (zip2 f (kept a) (kept b)) i 0) (sym place)
+        ∙ kept_at (first + j) (omega arith) (omega (arith, zipped_kept))
+        ∙ nothing_kept whole (first + j) (omega arith) (omega (arith, zipped_kept))))),
+  )
     where
-      fits : k < words_for a.universe
-      fits = omega (arith, h.to_is)
-
-      by : (t : Bool) → all_zero (zip2 f (all_words a) (all_words b)) ≡ t
-          → false ≡ all_zero (zip2 f (all_words a) (all_words b))
-      by true e = absurd (some (sym (zipped_at k fits) ∙ zeros_at (zip2 f (all_words a) (all_words b)) k e
-          (omega (arith, zipped_long))))
-      by false e = sym e
+      is : t ≡ all_zero (zip2 f (kept a) (kept b))
+      is = t_is ∙ ap₂ (λ xs ys. all_zero (zip2 f xs ys)) us_are vs_are

@@ -1,11 +1,11 @@
 //! The words of two sets over one large universe.
 
-ghost use Rattle.std.specs.Prelude.{◌≡◌, IfOk, bit_and, bit_or, length};
+ghost use Rattle.std.specs.Prelude.{◌≡◌, ◌↔◌, IfOk, IsTrue, bit_and, bit_or, length};
 ghost use Rattle.std.specs.Simd.Lanes.{zip2};
-ghost use Rattle.version_sets.specs.inner.Forms.{HasWords, IsHull, IsHullAndEnds, all_words};
+ghost use Rattle.version_sets.specs.inner.Forms.{HasWords, IsHull, IsHullAndEnds, IsNothingAt, IsOverlap, all_words};
 ghost use Rattle.version_sets.specs.inner.Words.{all_zero, and_not};
 
-use crate::kernels::{add_bits, keep_common};
+use crate::kernels::{self, add_bits, keep_common};
 use crate::window::Window;
 use crate::word::words_for;
 use std::alloc::{AllocError, Global};
@@ -87,18 +87,74 @@ pub(crate) fn common(alloc: Global, a: &Window, b: &Window) -> Result<Window, Al
     whole.narrowed(alloc)
 }
 
+/// The places from one on and below another that both windows keep, as many as there are.
+fn overlap(a: &Window, b: &Window, from: u32, to: u32) -> (u32, u32)
+    ensures { IsOverlap a.now b.now from to result.0 result.1 }
+{
+    let first = a.first.max(b.first).max(from).min(to);
+    let end = a.end().min(b.end()).min(to);
+    (first, end.max(first))
+}
+
+/// Whether the words of the second set have each bit of the first one's, from one place on and below another.
+fn are_within_by_word(a: &Window, b: &Window, from: u32, to: u32) -> bool
+    ensures { IsTrue result ↔ IsNothingAt and_not a.now b.now from to }
+{
+    'places: for place in from..to {
+        if a.at(place) & !b.at(place) != 0 {
+            return false;
+        }
+    }
+    true
+}
+
+/// The same, with those words that both windows keep taken eight at a time.
+fn are_within_at(a: &Window, b: &Window, from: u32, to: u32) -> bool
+    ensures { IsTrue result ↔ IsNothingAt and_not a.now b.now from to }
+{
+    let (first, end) = overlap(a, b, from, to);
+    if !are_within_by_word(a, b, from, first) {
+        return false;
+    }
+    if !are_within_by_word(a, b, end, to) {
+        return false;
+    }
+    kernels::are_within(a.own(first, end), b.own(first, end))
+}
+
 /// Whether the words of the second set have each bit of the first one's.
 pub(crate) fn are_within(a: &Window, b: &Window) -> bool
     requires { a.now.universe ≡ b.now.universe }
     ensures { result ≡ all_zero (zip2 and_not (all_words a.now) (all_words b.now)) }
 {
     let (from, to) = hull_and_ends(a, b);
-    'places: for place in a.first_bits(from)..a.last_bits(to) {
-        if a.at(place) & !b.at(place) != 0 {
+    are_within_at(a, b, a.first_bits(from), a.last_bits(to))
+}
+
+/// Whether no bit is in the words of both, from one place on and below another.
+fn are_disjoint_by_word(a: &Window, b: &Window, from: u32, to: u32) -> bool
+    ensures { IsTrue result ↔ IsNothingAt bit_and a.now b.now from to }
+{
+    'places: for place in from..to {
+        if a.at(place) & b.at(place) != 0 {
             return false;
         }
     }
     true
+}
+
+/// The same, with those words that both windows keep taken eight at a time.
+fn are_disjoint_at(a: &Window, b: &Window, from: u32, to: u32) -> bool
+    ensures { IsTrue result ↔ IsNothingAt bit_and a.now b.now from to }
+{
+    let (first, end) = overlap(a, b, from, to);
+    if !are_disjoint_by_word(a, b, from, first) {
+        return false;
+    }
+    if !are_disjoint_by_word(a, b, end, to) {
+        return false;
+    }
+    kernels::are_disjoint(a.own(first, end), b.own(first, end))
 }
 
 /// Whether no bit is in the words of both.
@@ -107,10 +163,10 @@ pub(crate) fn are_disjoint(a: &Window, b: &Window) -> bool
     ensures { result ≡ all_zero (zip2 bit_and (all_words a.now) (all_words b.now)) }
 {
     let (from, to) = hull_and_ends(a, b);
-    'places: for place in b.first_bits(a.first_bits(from))..b.last_bits(a.last_bits(to)) {
-        if a.at(place) & b.at(place) != 0 {
-            return false;
-        }
-    }
-    true
+    are_disjoint_at(
+        a,
+        b,
+        b.first_bits(a.first_bits(from)),
+        b.last_bits(a.last_bits(to)),
+    )
 }

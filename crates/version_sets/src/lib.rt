@@ -15,7 +15,7 @@
 //! would be n sets of n bits; so they are n sets of a word or two each. The first word lies apart (`wide.rt`) since
 //! number 0 of a vertex is "absent": what a needed package may be lacks it, and has as a rule all numbers up to one.
 //! `windows.rt` makes and reads windows, `combining.rt` combines and compares two; where both have words, these are
-//! combined eight at a time (`kernels.rt`).
+//! combined and compared eight at a time (`kernels.rt`).
 //!
 //! A set of words takes 16 bytes, also where its words lie elsewhere: a struct in a `Box`. `of_tests` is there for
 //! axioms, which name sets of many states, since a union of single ones costs the whole set each time; `of_range` for

@@ -5,7 +5,7 @@ ghost use Rattle.std.specs.List.{range_with_len};
 ghost use Rattle.std.specs.Prelude.{◌≡◌, ◌≤◌, ◌<◌, ◌+◌, ◌-◌, ◌^◌, IfOk, IsTrue, ℕ};
 ghost use Rattle.std.specs.Prelude.{bit_and, drop, false, length, map, slice_index, take, true};
 ghost use Rattle.std.specs.Simd.Lanes.{chunk, zip2};
-ghost use Rattle.version_sets.specs.inner.Forms.{HasWords, IsWindow, all_words};
+ghost use Rattle.version_sets.specs.inner.Forms.{HasWords, IsWindow, Keeps, all_words};
 ghost use Rattle.version_sets.specs.inner.Windows.{AreEnds, IsFlanked, flank, flank_word, full_word, words_for};
 ghost use Rattle.version_sets.specs.inner.Words.{and_not, ones_in};
 ghost use Rattle.version_sets.specs.Sets.{between};
@@ -141,6 +141,17 @@ impl Window {
             words.push(self.at(place))?;
         }
         Ok(words)
+    }
+
+    /// The window's own words from one place on and below another.
+    pub(crate) fn own(&self, first: u32, end: u32) -> &[u64]
+        requires { Keeps self.now first end }
+        ensures { result.now ≡ chunk first (end - first) (all_words self.now) }
+    {
+        if end <= first {
+            return &self.words[..0];
+        }
+        &self.words[(first - self.first) as usize..(end - self.first) as usize]
     }
 
     /// The first place of the window whose word is unlike those before it, or the window's end.

@@ -1,5 +1,5 @@
 -- How a set of words lies in memory: one word in place, or the first word and a window of the others behind a pointer.
-use Rattle.std.specs.Prelude.{◌≡◌, ℕ, ◌+◌, ◌-◌, ◌≤◌, List, [], ◌∷◌, min}
+use Rattle.std.specs.Prelude.{◌≡◌, ℕ, ◌+◌, ◌-◌, ◌<◌, ◌≤◌, List, [], ◌∷◌, length, min, slice_index}
 use Rattle.version_sets.specs.declared.wide.Wide.{Wide}
 use Rattle.version_sets.specs.declared.window.Window.{Window}
 use Rattle.version_sets.specs.declared.words.Form.{Form}
@@ -62,3 +62,22 @@ pub record IsHullAndEnds (a b : Window) (from to : ℕ) : Type 0 where
   pub hull : IsHull a b first last
   pub from_is : from ≡ first - 1
   pub to_is : to ≡ min (words_for a.universe) (last + 1)
+
+-- an operation on the words of two windows gives 0 at each place from one on and below another
+abbrev pub IsNothingAt : (ℕ → ℕ → ℕ) → Window → Window → ℕ → ℕ → Type 0
+IsNothingAt f a b from to =
+    (k : ℕ) → from ≤ k → k < to → f (slice_index (all_words a) k) (slice_index (all_words b) k) ≡ 0
+
+-- the words from one place on and below another, if there are any, are the window's own
+pub record Keeps (w : Window) (first end : ℕ) : Type 0 where
+  pub from : first < end → w.first ≤ first
+  pub to : first < end → end ≤ w.first + length w.words.items
+
+-- places from one on and below another of which both windows keep the words, and no place is left out
+pub record IsOverlap (a b : Window) (from to first end : ℕ) : Type 0 where
+  pub above : first < to → from ≤ first
+  pub rising : first ≤ end
+  pub below : end ≤ to
+  pub of_first : Keeps a first end
+  pub of_second : Keeps b first end
+  pub all : (k : ℕ) → from ≤ k → k < to → Keeps a k (k + 1) → Keeps b k (k + 1) → (first ≤ k) × (k < end)
