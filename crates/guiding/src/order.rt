@@ -1,7 +1,11 @@
-//! Which vertex is decided next: of the undecided ones that which had a part in most far jumps, the first by number.
+//! Which vertex is decided next: of the undecided ones that whose conflicts weigh most, the first by number.
 //!
-//! A far jump is as far as `conflicts` makes one. It undoes many levels that its conflict wasn't about, and they are
-//! decided again. Where what it was about is decided before them, the next such conflict comes soon, and is near.
+//! At first far jumps alone count, all alike. A far jump is as far as `conflicts` makes one. It undoes many levels that
+//! its conflict wasn't about, and they are decided again. Where what it was about is decided before them, the next such
+//! conflict comes soon, and is near.
+//!
+//! After many conflicts on long trails each conflict counts, and a later one more (the activity of SAT solvers): most
+//! of so many vertices have no part in what is wrong. On short trails that takes far more steps (docs/DECISIONS.md).
 
 ghost use Rattle.std.specs.Prelude.{◌≡◌, length};
 ghost use Rattle.propagation.specs.Promises.{IsSound};
@@ -15,6 +19,19 @@ use std::alloc::{AllocError, Global};
 use std::collections::BinaryHeap;
 use version_sets::States;
 
+/// A trail of so many places is long.
+const LONG: usize = 4_000;
+
+/// After so many conflicts on long trails each one counts.
+const MANY: usize = 3_000;
+
+/// What a conflict counts at first.
+const FIRST: u64 = 16;
+
+/// Before a conflict counts so many times as much, it counts as little as at first again, and all that counted before
+/// is so many times less.
+const LESS: u64 = 1_000_000_000;
+
 /// A vertex that was taken from the candidates, and how many places the trail had then.
 #[derive(Clone, Copy)]
 struct Taken {
@@ -26,13 +43,17 @@ struct Taken {
 /// only helps to find one soon: nothing rests on what it says.
 #[derive(Drop)]
 pub(crate) struct Order {
-    /// Of each the far jumps, and how far its number is from the greatest one, so that the greatest comes first. One
-    /// that had a part in more since is passed over: it is there with these too.
+    /// Of each the weight, and how far its number is from the greatest one, so that the greatest comes first. One that
+    /// weighs otherwise since is passed over: it is there with that weight too.
     candidates: BinaryHeap<(u64, usize)>,
     /// Whether each vertex is a candidate; false past the end.
     waiting: Vec<bool>,
-    /// In how many far jumps each vertex had a part; 0 past the end.
-    jumps: Vec<u64>,
+    /// What the conflicts count together that each vertex had a part in; 0 past the end.
+    weights: Vec<u64>,
+    /// What the next conflict counts.
+    counts: u64,
+    /// How many conflicts were on long trails.
+    long: usize,
     /// The level that the next decision opens.
     level: usize,
     /// The latest last.
@@ -64,7 +85,9 @@ impl Order {
         Order {
             candidates: BinaryHeap::new(alloc),
             waiting: Vec::new(alloc),
-            jumps: Vec::new(alloc),
+            weights: Vec::new(alloc),
+            counts: FIRST,
+            long: 0,
             level: 0,
             taken: Vec::new(alloc),
             followed: 0,
@@ -99,9 +122,9 @@ impl Order {
         requires { vertices ≡ length (trail_view S.tests trail.now).sets }
     {
         self.level = trail.level().saturating_add(1);
-        'candidates: while let Some((jumps, from_end)) = self.candidates.pop() {
+        'candidates: while let Some((weight, from_end)) = self.candidates.pop() {
             let vertex = usize::MAX - from_end;
-            if jumps == self.jumps_of(vertex) {
+            if weight == self.weight_of(vertex) {
                 if let Some(waiting) = self.waiting.get_mut(vertex) {
                     *waiting = false;
                 }
@@ -117,8 +140,8 @@ impl Order {
         Ok(None)
     }
 
-    /// Looks at a jump back to a level, after a conflict that taught an entry: if it is far, all that the conflict was
-    /// about had a part in it.
+    /// Looks at a jump back to a level, after a conflict that taught an entry: if it counts, then for all that the
+    /// conflict was about.
     pub(crate) fn jumped<S: States + Drop>(
         &mut self,
         level: usize,
@@ -128,7 +151,11 @@ impl Order {
     ) -> Result<(), AllocError> {
         let jump = self.level.saturating_sub(level);
         self.level = level;
-        if jump < FARTHEST {
+        if self.followed >= LONG {
+            self.long = self.long.saturating_add(1);
+        }
+        let is_each = self.long > MANY;
+        if jump < FARTHEST && !is_each {
             return Ok(());
         }
         self.raise_at(store, learned)?;
@@ -138,7 +165,25 @@ impl Order {
                 self.raise_at(store, link.with)?;
             }
         }
+        if is_each {
+            self.count_more()?;
+        }
         self.shed()
+    }
+
+    /// Lets the next conflict count a sixteenth more.
+    fn count_more(&mut self) -> Result<(), AllocError> {
+        self.counts = self.counts.saturating_add(self.counts / FIRST);
+        if self.counts / LESS < FIRST {
+            return Ok(());
+        }
+        self.counts = FIRST;
+        'vertices: for vertex in 0..self.weights.len() {
+            if let Some(weight) = self.weights.get_mut(vertex) {
+                *weight /= LESS;
+            }
+        }
+        self.put_anew()
     }
 
     /// Gives back what was taken when the trail had more places than are left of it: it may be undecided again.
@@ -156,7 +201,7 @@ impl Order {
         Ok(())
     }
 
-    /// Counts a far jump for each vertex that an entry speaks of.
+    /// Counts a conflict for each vertex that an entry speaks of.
     fn raise_at<S: States + Drop>(&mut self, store: &Store<S>, id: Id) -> Result<(), AllocError> {
         if id.index() >= store.len() {
             return Ok(());
@@ -167,11 +212,11 @@ impl Order {
         Ok(())
     }
 
-    /// Counts a far jump for a vertex.
+    /// Counts a conflict for a vertex.
     fn raise(&mut self, vertex: usize) -> Result<(), AllocError> {
-        reach(&mut self.jumps, vertex, 0)?;
-        if let Some(jumps) = self.jumps.get_mut(vertex) {
-            *jumps = jumps.saturating_add(1);
+        reach(&mut self.weights, vertex, 0)?;
+        if let Some(weight) = self.weights.get_mut(vertex) {
+            *weight = weight.saturating_add(self.counts);
         }
         if self.is_waiting(vertex) {
             self.push(vertex)?;
@@ -184,6 +229,11 @@ impl Order {
         if self.candidates.len() / 2 <= self.waiting.len() {
             return Ok(());
         }
+        self.put_anew()
+    }
+
+    /// Leaves each candidate there with its weight alone.
+    fn put_anew(&mut self) -> Result<(), AllocError> {
         self.candidates.clear();
         'vertices: for vertex in 0..self.waiting.len() {
             if self.is_waiting(vertex) {
@@ -197,9 +247,9 @@ impl Order {
         matches!(self.waiting.get(vertex), Some(true))
     }
 
-    fn jumps_of(&self, vertex: usize) -> u64 {
-        match self.jumps.get(vertex) {
-            Some(jumps) => *jumps,
+    fn weight_of(&self, vertex: usize) -> u64 {
+        match self.weights.get(vertex) {
+            Some(weight) => *weight,
             None => 0,
         }
     }
@@ -208,8 +258,8 @@ impl Order {
         ensures followed { self.new.followed ≡ self.old.followed }
         ensures taken { self.new.taken ≡ self.old.taken }
     {
-        let jumps = self.jumps_of(vertex);
-        self.candidates.push((jumps, usize::MAX - vertex))?;
+        let weight = self.weight_of(vertex);
+        self.candidates.push((weight, usize::MAX - vertex))?;
         Ok(())
     }
 
