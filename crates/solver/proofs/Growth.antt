@@ -1,5 +1,5 @@
--- What stays as more vertices get numbers, and a set's values put one by one.
-use Rattle.std.proofs.Common.{◌≡◌, ℕ, List, ◌++◌, drop}
+-- What stays as more vertices get numbers.
+use Rattle.std.proofs.Common.{◌≡◌, ℕ, List}
 use Rattle.std.proofs.Common.{Option, Some, None, slice_get, refl}
 use Rattle.std.proofs.Common.{sym, ◌∙◌}
 use Rattle.std.proofs.lemmas.Option.{none-some}
@@ -9,7 +9,7 @@ use Rattle.incompatibilities.specs.Incompatibilities.{states_at}
 use Rattle.model.specs.Content.{Problem}
 use Rattle.model.specs.Vertices.{Vertex}
 use Rattle.numbering.specs.Numberings.{Numbering}
-use Rattle.solver.specs.inner.Decoding.{states_in, IsOver}
+use Rattle.solver.specs.inner.Decoding.{IsOver}
 use Rattle.solver.proofs.Decoded.{none_at}
 
 pub has_vertex : (q : Problem) (vs : Numbering) (made : List TermView) (n : ℕ) (m : Members) → IsOver q vs made
@@ -19,8 +19,3 @@ has_vertex q vs made n m over e = by (slice_get vs n) refl
     by : (o : Option Vertex) → slice_get vs n ≡ o → (v : Vertex) × (slice_get vs n ≡ Some v)
     by (Some v) f = (v, f)
     by None f = absurd (none-some m (sym (none_at q vs made over n f) ∙ e))
-
--- ---- a set's values
-
-abbrev pub IsChoosing : {X : Type 0} → List X → Members → ℕ → List X → Type 0
-IsChoosing xs m i made = made ++ states_in (drop i xs) (drop i m) ≡ states_in xs m

@@ -14,6 +14,7 @@ pub mod Likeness
 pub mod Accepting
 pub mod Whole
 pub mod Growth
+pub mod Skipped
 pub mod Numbered
 pub mod SayingSame
 pub mod NewTerms
