@@ -5,7 +5,8 @@
 //! conflict comes soon, and is near.
 //!
 //! After many conflicts on long trails each conflict counts, and a later one more (the activity of SAT solvers): most
-//! of so many vertices have no part in what is wrong. On short trails that takes far more steps (docs/DECISIONS.md).
+//! of so many vertices have no part in what is wrong. On short trails that may take far more steps
+//! (docs/DECISIONS.md).
 
 ghost use Rattle.std.specs.Prelude.{◌≡◌, length};
 ghost use Rattle.propagation.specs.Promises.{IsSound};
@@ -23,10 +24,13 @@ use version_sets::States;
 const LONG: usize = 4_000;
 
 /// After so many conflicts on long trails each one counts.
-const MANY: usize = 3_000;
+const PATIENCE: usize = 3_000;
 
 /// What a conflict counts at first.
 const FIRST: u64 = 16;
+
+/// By one part in so many a conflict counts more than the one before.
+const RISE: u64 = 16;
 
 /// Before a conflict counts so many times as much, it counts as little as at first again, and all that counted before
 /// is so many times less.
@@ -154,7 +158,7 @@ impl Order {
         if self.followed >= LONG {
             self.long = self.long.saturating_add(1);
         }
-        let is_each = self.long > MANY;
+        let is_each = self.long > PATIENCE;
         if jump < FARTHEST && !is_each {
             return Ok(());
         }
@@ -171,17 +175,15 @@ impl Order {
         self.shed()
     }
 
-    /// Lets the next conflict count a sixteenth more.
+    /// Lets the next conflict count more.
     fn count_more(&mut self) -> Result<(), AllocError> {
-        self.counts = self.counts.saturating_add(self.counts / FIRST);
+        self.counts = self.counts.saturating_add(self.counts / RISE);
         if self.counts / LESS < FIRST {
             return Ok(());
         }
         self.counts = FIRST;
-        'vertices: for vertex in 0..self.weights.len() {
-            if let Some(weight) = self.weights.get_mut(vertex) {
-                *weight /= LESS;
-            }
+        'weights: for weight in self.weights.iter_mut() {
+            *weight /= LESS;
         }
         self.put_anew()
     }
