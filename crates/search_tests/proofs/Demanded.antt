@@ -4,7 +4,7 @@ use Rattle.std.proofs.Common.{eq-eqb, List, [], ◌∷◌, ◌++◌, length, map
 use Rattle.std.proofs.Common.{◌∙◌, subst, arith, inl, inr}
 use Rattle.std.specs.List.{remove}
 use Rattle.std.proofs.lemmas.Bool.{and_parts, cases_lt, eqb-true, false≢true, ne_eqb, or_left, or_right}
-use Rattle.std.proofs.lemmas.List.{append-nil, get_or_append_left, get_or-append_right, get_or_past, length-append}
+use Rattle.std.proofs.lemmas.List.{get_or_append_left, get_or-append_right, get_or_past, length-append}
 use Rattle.std.proofs.lemmas.List.Edits.{length-remove}
 use Rattle.terms.specs.Terms.{TermView}
 use Rattle.incompatibilities.specs.Incompatibilities.{IsIncompatibility, LiesIn, states_at}
@@ -15,7 +15,7 @@ use Rattle.propagation.specs.Promises.{IsTrail, LieIn}
 use Rattle.propagation.specs.inner.Widening.{IsWider, sum_of}
 use Rattle.propagation.specs.inner.Units.{term_at}
 use Rattle.propagation.proofs.Vertices.{place_of, states_of}
-use Rattle.propagation.proofs.Widened.{sum_append, wider_again, wider_none}
+use Rattle.propagation.proofs.Widened.{sum_append, wider_again}
 use Rattle.guiding.specs.inner.Searching.{HasSpaces, IsOnly}
 use Rattle.guiding.specs.inner.Turning.{IsAdding}
 use Rattle.guiding.proofs.Guides.{adding_nothing, lone_one, spaces_wider}
@@ -37,9 +37,6 @@ lies_all spaces ts fit u s e = let p = place_of ts u s e in subst (λ x. length 
 pub ones_asked : (spaces : List ℕ) (ps : List (ℕ × ℕ)) (v i : ℕ) → universe_at spaces v ≡ 1
     → asked_of spaces ps v i ≡ true
 ones_asked spaces ps v i e = rw e refl
-
-pub put_none : (spaces : List ℕ) (v i : ℕ) (es : List EntryView) → IsPutOf spaces v i es es
-put_none spaces v i es = record { gained = []; grown = sym (append-nil es); each = λ k lt. absurd (omega (arith, lt)) }
 
 pub put_one : (spaces : List ℕ) (v i : ℕ) (es new : List EntryView) (ts : List TermView) → IsIncompatibility ts
     → universe_at spaces v ≢ 1 → AllFit spaces ts → HasOnly ts v i
@@ -170,17 +167,6 @@ adding_none spaces left late t ps es lies alone =
         absurd (alone at.0 at.1 (subst (λ w. w < length t.sets) (sym at.2) within) (subst (λ w. IsOnly (set_of t.sets w)
         (pair_at ps at.0).1) (sym at.2) (subst (IsOnly (set_of t.sets v)) (sym at.3) only)))
     asked v i within only false e = ap not e
-
--- vertices come
-pub come_none : (es : List EntryView) (spaces coming : List ℕ) (t : TrailView) → IsTrail es t
-    → HasCome es spaces coming t spaces coming t
-come_none es spaces coming t trail = record {
-  came = [];
-  spaces_are = sym (append-nil spaces);
-  rest_is = omega arith;
-  wider = wider_none t;
-  trail = trail;
-}
 
 sum_last : (xs : List ℕ) (n : ℕ) → sum_of (xs ++ n ∷ []) ≡ sum_of xs + n
 sum_last xs n = sum_append xs (n ∷ []) ∙ (let e : sum_of xs + (n + 0) ≡ sum_of xs + n = omega arith in e)

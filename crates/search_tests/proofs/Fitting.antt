@@ -14,17 +14,13 @@ use Rattle.propagation.specs.Promises.{IsNew, IsTrail, LieIn, SameSpaces}
 use Rattle.propagation.specs.Trails.{TrailView, set_of, space_of}
 use Rattle.propagation.specs.inner.Widening.{IsWider}
 use Rattle.propagation.proofs.Soundness.{trail_grown}
-use Rattle.search_tests.specs.inner.Meeting.{AreFit, AreSmall, IsMeeting, universe_at}
+use Rattle.search_tests.specs.inner.Meeting.{AreSmall, IsMeeting, universe_at}
 
 -- the terms so far, all at vertices below a number
 pub record AreSoFar (space : ℕ → ℕ) (low : ℕ) (ts : List TermView) : Type 0 where
   pub one : OneEach ts
   pub past : (v : ℕ) → low ≤ v → terms_on v ts ≡ 0
   pub lies : LiesIn space (states_at ts)
-
-pub none_so_far : (space : ℕ → ℕ) → AreSoFar space 0 []
-none_so_far space =
-    record { one = λ v. omega arith; past = λ v le. refl; lies = λ u s e. (let clash : None ≡ Some s = e in cc) }
 
 abbrev here : ℕ → TermView → ℕ
 here v t = cond (eqb t.vertex v) 1 0
@@ -68,9 +64,6 @@ one_more space low next ts t far le is fits = record {
     | inr new ↦ (let a = alone t u s new in ap length (sym a.1) ∙ fits ∙ ap space a.0)
   ];
 }
-
-pub all_fit : (space : ℕ → ℕ) (low : ℕ) (ts : List TermView) → AreSoFar space low ts → AreFit space ts
-all_fit space low ts far = record { one = far.one; lies = far.lies }
 
 -- a trail before any assignment
 pub meets_at_first : (spaces : List ℕ) (t : TrailView) → AreSmall spaces → IsNew spaces t → IsTrail [] t

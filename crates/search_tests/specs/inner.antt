@@ -1,5 +1,4 @@
 pub mod Demands
-pub mod Lying
 pub mod Meeting
 pub mod Spaces
 pub mod Universes

@@ -1,7 +1,7 @@
-//! Tests of the algebra under the search, of its trail and of the search itself, at both bodies of their sets, and each
-//! of its public calls once by its name (`set_calls`, `trail_calls`). The search runs with two small guides: one whose
-//! axioms all stand in the store from the start, and one whose vertices and axioms come as they are asked for. Each
-//! function is proved before it runs; all are compiled for the tests alone, so that they are proved once.
+//! Tests of the algebra under the search, of its trail and of the search itself, at both bodies of their sets. The search
+//! runs with two small guides: one whose axioms all stand in the store from the start, and one whose vertices and axioms
+//! come as they are asked for. Each function is proved before it runs; all are compiled for the tests alone, so that they
+//! are proved once.
 #![tactic(auto)]
 
 #[cfg(test)]
@@ -29,15 +29,11 @@ mod plain;
 #[cfg(test)]
 mod preferring;
 #[cfg(test)]
-mod set_calls;
-#[cfg(test)]
 mod sets;
 #[cfg(test)]
 mod sizes;
 #[cfg(test)]
 mod stores;
-#[cfg(test)]
-mod trail_calls;
 #[cfg(test)]
 mod trails;
 #[cfg(test)]

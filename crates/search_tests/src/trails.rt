@@ -170,6 +170,9 @@ static CLASH: [Step; 7] = [
     Step::Decide(2, 1),
 ];
 
+/// A vertex that may be in neither of its states.
+static NEITHER: [Step; 3] = [Step::Grow(2), Step::Single(0, 0b01), Step::Single(0, 0b10)];
+
 /// What is asked of 1001 vertices of which one in state 1 asks for the next in state 1.
 static CHAIN: [Step; 10] = [
     Step::AllLeft(0b11),
@@ -216,6 +219,14 @@ fn clash<S: States + Drop>(rt: &impl Abort, alloc: Global) -> Result<(), AllocEr
     Ok(())
 }
 
+/// A conflict before any decision refuses by an entry without terms.
+fn refuses<S: States + Drop>(rt: &impl Abort, alloc: Global) -> Result<(), AllocError> {
+    let mut trial: Trial<S> = Trial::new(alloc)?;
+    take_all(rt, &mut trial, NEITHER.as_slice())?;
+    assert!(rt; trial.refusal()? == Some(0));
+    Ok(())
+}
+
 /// One in state 1 asks for the next in state 1.
 fn chain<S: States + Drop>(rt: &impl Abort, alloc: Global) -> Result<(), AllocError> {
     let mut trial: Trial<S> = Trial::new(alloc)?;
@@ -232,5 +243,6 @@ pub(crate) fn trails<S: States + Drop>(rt: &impl Abort, alloc: Global) -> Result
         take::<S>(rt, alloc, script)?;
     }
     clash::<S>(rt, alloc)?;
+    refuses::<S>(rt, alloc)?;
     chain::<S>(rt, alloc)
 }

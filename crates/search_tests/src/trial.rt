@@ -11,6 +11,7 @@ ghost use Rattle.propagation.specs.declared.propagating.Progress.TheVariants.{Co
 ghost use Rattle.std.specs.Prelude.{◌≡◌, ◌≤◌, length};
 
 use crate::made_terms::terms_of;
+use conflicts::{Outcome, resolve_conflict};
 use incompatibilities::{Id, Incompatibility, Origin, Store};
 use propagation::{Progress, Satisfier, Trail};
 use std::alloc::{AllocError, Global};
@@ -115,6 +116,23 @@ impl<S: States + Drop> Trial<S> {
     pub fn conflict(&mut self) -> Result<Option<(Id, Satisfier)>, AllocError> {
         match self.trail.propagate(&self.store)? {
             Progress::Conflict(id) => Ok(satisfier_of(&self.trail, &self.store, id)),
+            Progress::Fixpoint => Ok(None),
+        }
+    }
+
+    /// Propagates, and resolves the conflict that this ended at; how many terms the refusal has, if it has come to that.
+    pub fn refusal(self) -> Result<Option<usize>, AllocError> {
+        let Trial {
+            alloc,
+            mut store,
+            mut trail,
+            ..
+        } = self;
+        match trail.propagate(&store)? {
+            Progress::Conflict(id) => match resolve_conflict(alloc, &mut trail, &mut store, id)? {
+                Outcome::Learned { .. } => Ok(None),
+                Outcome::Unsolvable(id) => Ok(Some(store.get(id).terms().len())),
+            },
             Progress::Fixpoint => Ok(None),
         }
     }
