@@ -1,6 +1,6 @@
 -- Which terms are full, by the versions of a name.
-use Rattle.std.proofs.Common.{◌≡◌, Bool, true, false, cond, not, ◌&&◌, ◌||◌, List, [], ◌∷◌, map, filter, Option, Some}
-use Rattle.std.proofs.Common.{None, refl, sym, ap, ◌∙◌, true≢false}
+use Rattle.std.proofs.Common.{◌≡◌, Bool, true, false, cond, not, ◌&&◌, ◌||◌, List, [], ◌∷◌, map, filter}
+use Rattle.std.proofs.Common.{refl, sym, ap, ◌∙◌, true≢false}
 use Rattle.std.specs.Prelude.{ℕ}
 use Rattle.std.specs.List.{list_any, list_all}
 use Rattle.semver.specs.Parse.{Parts}
@@ -8,10 +8,10 @@ use Rattle.semver.specs.Identifiers.{parts_of}
 use Rattle.semver.specs.EvalViews.{matches_views}
 use Rattle.semver.specs.declared.Version.{Version}
 use Rattle.model.specs.Summary.{Dependency}
-use Rattle.model.specs.Content.{Candidate, Problem, candidates_of}
+use Rattle.model.specs.Content.{Candidate, candidates_of}
 use Rattle.model.specs.Selection.{Class, class_of}
-use Rattle.model.specs.Vertices.{Vertex, root, pkg, dep, feat, ask, State, absent, version, in_class, has_state}
-use Rattle.model.specs.Vertices.{same_class, class_candidates, classes_of, dep_classes, dep_space}
+use Rattle.model.specs.Vertices.{Vertex, root, pkg, dep, feat, ask, State, version, in_class, has_state}
+use Rattle.model.specs.Vertices.{same_class, class_candidates, classes_of, dep_classes}
 use Rattle.model.specs.Axioms.{at, is_full, matched}
 use Rattle.model.specs.Candidates.{Record, as_candidate}
 use Rattle.model.proofs.Same.{class-same}
@@ -19,7 +19,7 @@ use Rattle.manifest.specs.Manifests.{ManifestView}
 use Rattle.model.specs.Causes.{dependency_at}
 use Rattle.catalogue.specs.Problems.{problem_in}
 use Rattle.catalogue.specs.Stores.{CatalogueView, candidates_at, rows_by_name}
-use Rattle.axioms.specs.inner.FullTerms.{classes_if, others, has_if_matched}
+use Rattle.axioms.specs.inner.FullTerms.{others, has_if_matched}
 use Rattle.lookups.specs.inner.Ranges.{is_of}
 use Rattle.catalogue.proofs.Lookups.{candidates_are}
 use Rattle.lookups.proofs.Classed.{all_classed}
@@ -92,17 +92,3 @@ classes_full m c d ss vs e =
     ∙ sym (all-filter (λ (c : Candidate). has_state ss (in_class (class_of c.version))) (matched d) cs)
     ∙ sym (classes_all (λ k. has_state ss (in_class k)) (filter (matched d) cs))
     ∙ sym (all-map (has_state ss) in_class (classes_of (filter (matched d) cs)))
-
-dep_full : (q : Problem) (ss : List State) (o : Option Dependency)
-    → (has_state ss absent && list_all (has_state ss) (classes_if q o)) ≡ list_all (has_state ss) (dep_space q o)
-dep_full q ss None = refl
-dep_full q ss (Some d) = refl
-
--- a term is full where it has `absent` and the others
-pub full_is : (q : Problem) (v : Vertex) (ss : List State)
-    → (has_state ss absent && list_all (has_state ss) (others q v)) ≡ is_full q (at v ss)
-full_is q root ss = refl
-full_is q (pkg name k) ss = refl
-full_is q (dep o i) ss = dep_full q ss (dependency_at q o i)
-full_is q (feat name k f) ss = refl
-full_is q (ask name v i g) ss = refl

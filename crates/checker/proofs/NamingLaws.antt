@@ -39,14 +39,6 @@ named_more t u first old new terms i d e lt g so_far h here = (
       (subst (λ t. IsNamed t new (get_or terms i d)) e here),
 )
 
-pub named_steps_more : (t u : TablesView) (old new : Naming) (steps : List Step) (i : ℕ) (d : Step) → u ≡ t
-    → i < length steps → AreNamedSteps t old (take i steps)
-    → IsGrown u old new → AreNamed u new (get_or steps i d).terms.items → AreNamedSteps t new (take (i + 1) steps)
-named_steps_more t u old new steps i d e lt so_far h here =
-    each_more (λ s. AreNamed t old s.terms.items) (λ s. AreNamed t new s.terms.items)
-    (λ s. each-weaker (IsNamed t old) (IsNamed t new) (subst (λ t. IsGrown t old new) e h).stays s.terms.items)
-    steps i d lt so_far (subst (λ t. AreNamed t new (get_or steps i d).terms.items) e here)
-
 -- ---- what is at hand in the end
 
 module _ (t : TablesView) (g : Naming) (d : Names) (same : tables_of d ≡ t)

@@ -70,13 +70,5 @@ non-decreasing (x ∷ xs) h zero (suc j) d low lt = at-index x xs j d h.0 (omega
 non-decreasing (x ∷ xs) h (suc i) zero d low lt = absurd (omega arith)
 non-decreasing (x ∷ xs) h (suc i) (suc j) d low lt = non-decreasing xs h.1 i j d (omega arith) (omega arith)
 
-below : (high : ℕ) (low : ℕ) (xs : List ℕ) → IsWithin low high xs → AllByRecursion (λ n. n < high) xs
-below high low [] h = tt
-below high low (x ∷ xs) h = (h.0.1, below high low xs h.1)
-
 pub needed-rises : (steps : List Step) → IsNonDecreasing (needed steps)
 needed-rises steps = non-decreasing (needed steps) (rising steps 0 (length steps)).1
-
-pub needed-below : (steps : List Step) → AllByRecursion (λ n. n < length steps) (needed steps)
-needed-below steps = let low : 0 + length steps ≡ length steps = omega arith in subst (λ high. AllByRecursion
-    (λ n. n < high) (needed steps)) low (below (0 + length steps) 0 (needed steps) (rising steps 0 (length steps)).0)

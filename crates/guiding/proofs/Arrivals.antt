@@ -10,7 +10,7 @@ use Rattle.numbering.specs.inner.KnownProblem.{problem}
 use Rattle.numbering.specs.Numberings.{Numbering}
 use Rattle.numbering.specs.declared.known_problem.KnownProblem.{KnownProblem}
 use Rattle.propagation.specs.Trails.{TrailView}
-use Rattle.propagation.proofs.Widened.{wider_again, wider_none}
+use Rattle.propagation.proofs.Widened.{wider_again}
 use Rattle.guiding.specs.inner.Guides.{IsCome, IsEncoding}
 use Rattle.guiding.specs.inner.Remaining.{spaces_of}
 
@@ -47,13 +47,6 @@ encoding_next i vs asked more n was less is e = record {
         ∙ ap₂ (λ xs y. xs ++ y ∷ []) was.spaces (length-replicate n false ∙ is next.0 next.1)
         ∙ sym (map_append (λ v. length (space (problem i) v)) (take (length asked) vs) (next.0 ∷ []))
         ∙ ap (spaces_of (problem i)) (sym (ap (λ k. take k vs) longer ∙ take_next vs (length asked) next.0 next.1))
-
-pub come_none : (asked : List Members) (t : TrailView) → IsCome asked asked t t
-come_none asked t = record { came = []; sets = same asked; wider = wider_none t }
-  where
-    same : (xs : List Members) → xs ≡ xs ++ []
-    same [] = refl
-    same (x ∷ xs) = ap (λ l. x ∷ l) (same xs)
 
 pub come_again : (a b c : List Members) (t m w : TrailView) → IsCome a b t m → IsCome b c m w → IsCome a c t w
 come_again a b c t m w first second = record {

@@ -44,11 +44,6 @@ first_has [] some = absurd (omega (arith, some))
 first_has (true ∷ s) some = refl
 first_has (false ∷ s) some = first_has s some
 
-zero_first : (s : Members) → has s 0 ≡ true → first_in s ≡ 0
-zero_first [] h = refl
-zero_first (true ∷ s) h = refl
-zero_first (false ∷ s) h = absurd (false≢true h)
-
 not_zero : (s : Members) → first_in s ≢ 0 → has s 0 ≡ false
 not_zero [] ne = refl
 not_zero (true ∷ s) ne = absurd (ne refl)

@@ -7,15 +7,14 @@ use Rattle.std.specs.List.{list_any}
 use Rattle.std.specs.Option.{option_or}
 use Rattle.std.proofs.Math.Bool.{and-false, and-or_distrib_right, and-true}
 use Rattle.semver.specs.Parse.{Parts}
-use Rattle.features.specs.EntryViews.{entry_view}
 use Rattle.features.specs.declared.entry.Entry as code
 use Rattle.model.specs.Content.{Problem}
 use Rattle.model.specs.Summary.{Dependency, Entry, feature, dependency, dependency_feature, weak_feature, same_text}
-use Rattle.model.proofs.Same.{text-refl, text-same}
+use Rattle.model.proofs.Same.{text-same}
 use Rattle.model.specs.Vertices.{owner_brings, version_of}
 use Rattle.model.specs.Causes.{enables, entries_of, is_unmatched}
 use Rattle.model.specs.inner.Instances.{enabled_unmatched, first_place}
-use Rattle.lookups.specs.inner.ByName.{AreGone, Names, PutsEntry, PutsGone, PutsNew, entry_named, is_gone}
+use Rattle.lookups.specs.inner.ByName.{AreGone, Names, PutsGone, PutsNew, is_gone}
 use Rattle.lookups.specs.inner.ByName.{least_enabled, lesser, named, number_enabled}
 use Rattle.lookups.proofs.Places.{from_start}
 
@@ -54,34 +53,6 @@ module _ {V S : Type 0} (old : Names V S) (d : List ℕ) (v : V) where
 
 -- ---- entries
 
-flip : (d e : List ℕ) → same_text d e ≡ same_text e d
-flip d e = by (same_text d e) refl (same_text e d) refl
-  where
-    turned : (a b : List ℕ) → same_text a b ≡ true → same_text b a ≡ true
-    turned a b f = ap (λ x. same_text b x) (text-same a b f) ∙ text-refl b
-
-    by : (x : Bool) → same_text d e ≡ x → (y : Bool) → same_text e d ≡ y → x ≡ y
-    by true f true g = refl
-    by false f false g = refl
-    by true f false g = sym (turned d e f) ∙ g
-    by false f true g = sym f ∙ turned e d g
-
--- an entry that enables what is called d
-pub entry_put : {S : Type 0} (old new : Names (Bor code.Entry) S) (d : List ℕ) (e : Bor code.Entry)
-    → PutsNew old d e new → ((x : List ℕ) → enables x (entry_view e.now) ≡ same_text x d)
-    → PutsEntry old (entry_view e.now) new
-entry_put old new d e put is x rest =
-    ap (λ o. option_or (option_map (λ f. entry_view f.now) o) rest) (put x)
-    ∙ by (named old x) (same_text d x)
-    ∙ ap (λ b. option_or (entry_named old x) (cond b (Some (entry_view e.now)) rest)) (flip d x ∙ sym (is x))
-  where
-    by : (o : Option (Bor code.Entry)) (b : Bool)
-        → option_or (option_map (λ f. entry_view f.now) (option_or o (cond b (Some e) None))) rest
-        ≡ option_or (option_map (λ f. entry_view f.now) o) (cond b (Some (entry_view e.now)) rest)
-    by (Some f) b = refl
-    by None true = refl
-    by None false = refl
-
 -- ---- numbers
 
 pub gone_put : {S : Type 0} (q : Problem) (old new : Names ℕ S) (n : ℕ) (x : Dependency) (called : List ℕ)
@@ -107,19 +78,6 @@ gone_kept q old n x un d rest =
     ∙ ap (λ b. same_text x.name d && b) (sym un))
 
 -- ---- the least number
-
-pub lesser_assoc : (a b c : Option ℕ) → lesser (lesser a b) c ≡ lesser a (lesser b c)
-lesser_assoc None b c = refl
-lesser_assoc (Some n) None c = refl
-lesser_assoc (Some n) (Some m) None = refl
-lesser_assoc (Some n) (Some m) (Some k) = ap Some (mins n m k)
-  where
-    mins : (n m k : ℕ) → min (min n m) k ≡ min n (min m k)
-    mins n m k = omega arith
-
-pub lesser_none : (o : Option ℕ) → lesser o None ≡ o
-lesser_none None = refl
-lesser_none (Some n) = refl
 
 zero_left : (o : Option ℕ) → lesser (Some 0) o ≡ Some 0
 zero_left None = refl

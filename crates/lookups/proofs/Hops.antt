@@ -158,12 +158,6 @@ module _ (t : Parts → Bool) where
       k : Class
       k = class_of (parts_of w)
 
--- where the same are matched, the classes are the same
-pub same_found : (cs : List Held) (vs ws : List Version)
-    → filter (matches_views cs) (map parts_of vs) ≡ filter (matches_views cs) (map parts_of ws)
-    → found (matches_views cs) vs ≡ found (matches_views cs) ws
-same_found cs vs ws same = ap (λ ps. each_once (map class_of ps)) same
-
 -- ---- all classes
 
 abbrev pub every : List Version → List Class

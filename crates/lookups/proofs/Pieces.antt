@@ -229,12 +229,6 @@ said_between k vs cs rs i j same told first = rw (take_rest vs i, take_rest cs i
     ∙ ap (take j) (sym (drop-map said_by i cs) ∙ ap (drop i) told ∙ drop-map said i rs) ∙ take-map said j (drop i rs)
     ∙ ap (map said) (between (λ (r : Record). r.version) k vs rs i j same first less last))
 
--- there are as many of them
-pub as_many_said : (vs : List Version) (cs : List Candidate) (rs : List Record)
-    → map parts_of vs ≡ map (λ (r : Record). r.version) rs → map said_by cs ≡ map said rs → length vs ≡ length cs
-as_many_said vs cs rs same told = as_many (λ (r : Record). r.version) vs rs same
-    ∙ sym (sym (length-map cs said_by) ∙ ap length told ∙ length-map rs said)
-
 -- ---- as parts
 
 pub parts_filtered : (t : Parts → Bool) (vs : List Version)

@@ -18,9 +18,6 @@ use Rattle.numbering.specs.inner.TestedTerms.{TestedTerm, tested_view, tested_vi
 use Rattle.lookups.specs.declared.cause.Cause as cause
 use Rattle.numbering.specs.declared.tested_terms.TestedTerm as tested_term
 
-pub adds_none : (Is : Vertex → Type 0) (vs : Numbering) → AddsOnly Is vs vs
-adds_none Is vs = λ v c. inl c
-
 pub adds_on : (Is : Vertex → Type 0) (a b c : Numbering) → AddsOnly Is a b → AddsOnly Is b c → AddsOnly Is a c
 adds_on Is a b c first next = λ v i. elim (next v i) [ inl d ↦ first v d | inr p ↦ inr p ]
 

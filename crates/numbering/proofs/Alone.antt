@@ -37,11 +37,6 @@ use Rattle.numbering.proofs.ClassOrder.{pairs_filter}
 use Rattle.numbering.proofs.Distinct.{of_rows}
 use Rattle.numbering.proofs.Tested.{map_map}
 
--- a state that lies past all others is none of them
-pub only_past : (n : ℕ) → only n n ≡ none n
-only_past zero = refl
-only_past (suc n) = ap (λ bs. false ∷ bs) (only_past n)
-
 module _ {X : Type 0} (t : X → Bool) where
   pub none_pass : (xs : List X) → ((k : ℕ) (d : X) → k < length xs → t (get_or xs k d) ≡ false)
       → map t xs ≡ none (length xs)

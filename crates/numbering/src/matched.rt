@@ -185,32 +185,6 @@ impl<'a> Matched<'a> {
         }
     }
 
-    /// Matches what every owner needs.
-    ///
-    /// # Errors
-    /// Memory is wanting.
-    pub fn keep_all(&mut self, alloc: Global) -> Result<(), AllocError>
-        ensures { problem_of self.new ≡ problem_of self.old }
-    {
-        let problem = self.problem;
-        self.keep_owner(alloc, OwnerRef::Root)?;
-        'names: for name in problem.catalogue.names() {
-            self.keep_name(alloc, name)?;
-        }
-        Ok(())
-    }
-
-    /// Matches what the versions of a name need.
-    fn keep_name(&mut self, alloc: Global, name: &'a PackageName) -> Result<(), AllocError>
-        ensures { problem_of self.new ≡ problem_of self.old }
-    {
-        let problem = self.problem;
-        'versions: for version in problem.catalogue.versions(name) {
-            self.keep_owner(alloc, OwnerRef::Version(name, version))?;
-        }
-        Ok(())
-    }
-
     fn keep_owner(&mut self, alloc: Global, owner: OwnerRef<'a>) -> Result<(), AllocError>
         ensures { problem_of self.new ≡ problem_of self.old }
     {

@@ -60,16 +60,6 @@ impl Said {
         self.tell(Severity::Warning, kind, message, None)
     }
 
-    /// The same before all that was told.
-    pub(crate) fn first_warning(&mut self, kind: &str, message: &str) -> Result<(), AllocError> {
-        let mut first = Said::new(self.alloc, self.form, self.quiet);
-        first.warning(kind, message)?;
-        first.out.push_str(self.out.as_str())?;
-        first.err.push_str(self.err.as_str())?;
-        *self = first;
-        Ok(())
-    }
-
     /// What Cargo refuses though it is no error here, to people, with the lines below it; where errors alone are
     /// told too.
     pub(crate) fn refused(&mut self, message: &str, below: &str) -> Result<(), AllocError> {

@@ -265,9 +265,6 @@ beside_more R xs ys x y h r =
       ];
     }
 
-pub no_lists : {X Y : Type 0} (R : X → Y → Type 0) → AreBeside R [] []
-no_lists R = record { as_many = refl; each = λ n x y got had. absurd (none-some x got) }
-
 target_there : (nodes : List NodeView) (n i s : ℕ) → slice_get (targets_at nodes n) i ≡ Some (Some s)
     → target_at nodes n i ≡ Some s
 target_there nodes n i s got = by (slice_get nodes n) got

@@ -207,20 +207,6 @@ putting_more es fs now new places id place done p more l ls below was put next =
           put.is,
     )
 
-pub put_all : (es : List EntryView) (fs now : List FlatView) (places : List ℕ) (id place done : ℕ) (ls : List Link)
-    → (links : ℕ) → IsPutting es fs now places id place done ls → ls ≡ [] → 0 < done → done ≡ links
-    → IsPut es fs now id place links 0
-put_all es fs now places id place done [] links p none some all = record {
-  gained = p.gained;
-  grown = p.grown;
-  founded = p.founded;
-  here = record { within = p.within; terms = sym p.comes_out };
-  ends = elim p.ends [ inl zero_done ↦ absurd (omega (arith, zero_done, some)) | inr e ↦ e ];
-  combined = p.combined ∙ all;
-  given = p.given;
-}
-put_all es fs now places id place done (l ∷ ls) links p none some all = absurd cc
-
 -- an axiom is put
 pub put_axiom : (es : List EntryView) (fs new : List FlatView) (id p kind : ℕ) (ts : List TermView) → id < length es
     → (entry es id).origin ≡ origins.Axiom kind → ts ≡ (entry es id).terms → AreFlat es fs → p ≡ length fs

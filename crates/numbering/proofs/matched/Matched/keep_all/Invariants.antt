@@ -1,7 +1,0 @@
-use Rattle.std.proofs.Common.{◌≡◌}
-use Rattle.numbering.specs.inner.MatchedViews.{problem_of}
-use Rattle.numbering.proofs.matched.Matched.keep_all.Given as goal
-
--- it is of the same problem
-abbrev pub invariant-names : goal.invariant-names
-invariant-names l = problem_of l.self ≡ problem_of l.fn.self
