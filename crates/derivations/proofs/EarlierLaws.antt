@@ -1,15 +1,13 @@
 -- Terms that are known by their texts, and steps and terms that stay what they are under tables that grow.
-use Rattle.std.proofs.Common.{◌≡◌, ℕ, Bool, true, false, not, ◌+◌, ◌<◌, List, [], ◌∷◌, ◌++◌, map, drop, take, length}
+use Rattle.std.proofs.Common.{◌≡◌, ℕ, Bool, true, false, not, ◌+◌, ◌<◌, List, [], ◌∷◌, ◌++◌, map, take, length}
 use Rattle.std.proofs.Common.{get_or, slice_get, Some, Ok, Err, refl, sym, ap, ap₂, ◌∙◌, subst}
 use Rattle.std.specs.List.{AllByRecursion}
-use Rattle.std.proofs.lemmas.List.{drop_more, map-append, map_more}
+use Rattle.std.proofs.lemmas.List.{map-append, map_more}
 use Rattle.std.specs.List.Sorted.{IsPermutation}
 use Rattle.std.proofs.lemmas.List.Elements.{All-from_recursion, recursion_from_All}
 use Rattle.std.proofs.lemmas.List.Sorted.{All-permutation, IsPermutation-map}
-use Rattle.trees.specs.declared.tree.Tree.{Tree}
 use Rattle.serde_json.specs.Data.{Data, Items, no_items, item}
 use Rattle.serde_json.specs.Find as json
-use Rattle.trees.specs.Trees.{tree_view, trees_view}
 use Rattle.model.specs.Outcome.{◌>>=◌, Faults}
 use Rattle.model.specs.Vertices.{Vertex, State}
 use Rattle.model.specs.Axioms as axioms
@@ -18,7 +16,7 @@ use Rattle.model.proofs.Members.{element}
 use Rattle.model.proofs.Accepted.{all-push}
 use Rattle.model.specs.Derivation as steps
 use Rattle.vertices.specs.inner.RefViews.{state_ref_view, state_ref_views}
-use Rattle.vertices.specs.Texts.{vertex_text, state_text, IsReadState}
+use Rattle.vertices.specs.Texts.{vertex_text, IsReadState}
 use Rattle.vertices.specs.declared.state.StateRef.{StateRef}
 use Rattle.vertices.proofs.OrderLaws.{state_total}
 use Rattle.derivations.specs.inner.Derivations.{IsDerivation, IsTerm, AreStepsFrom}
@@ -186,17 +184,6 @@ term-split d p text two first = rw (two, first) (by (vertex_in_line text))
         ≡ (r >>= λ v. states_of v p.1 >>= λ ss. Ok (axioms.at v ss)) >>= with-text text
     by (Ok v) = within v (states_of v p.1)
     by (Err e) = refl
-
--- one more text
-pub have-next : (t : TablesView) (vs : List Tree) (ns : List ℕ) (i : ℕ) (v : Tree) (n : ℕ)
-    → i < length vs → i < length ns → v ≡ get_or vs i v → n ≡ get_or ns i n
-    → json.as_str (tree_view v) ≡ Some (state_text (state_at t n)) → HaveTexts (trees_view (drop (i + 1) vs))
-    (states_at t (drop (i + 1) ns)) → HaveTexts (trees_view (drop i vs)) (states_at t (drop i ns))
-have-next t vs ns i v n below under value number is h =
-    let first : drop i vs ≡ v ∷ drop (i + 1) vs = drop_more vs i v below ∙ ap (λ x. x ∷ drop (i + 1) vs) (sym value) in
-    let second : drop i ns ≡ n ∷ drop (i + 1) ns =
-    drop_more ns i n under ∙ ap (λ x. x ∷ drop (i + 1) ns) (sym number) in
-    rw (first, second) (is, h)
 
 -- one more state
 pub states-next : (t : TablesView) (ns : List ℕ) (ss : List StateRef) (i : ℕ) (s : StateRef) → i < length ns

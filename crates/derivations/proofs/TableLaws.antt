@@ -1,5 +1,5 @@
 -- Tables that grow keep what their numbers stand for.
-use Rattle.std.proofs.Common.{sym, ◌≡◌, ℕ, ◌<◌, ◌≤◌, Bool, true, false, cond, List, [], ◌∷◌, ◌++◌, map, length, get_or}
+use Rattle.std.proofs.Common.{sym, ◌≡◌, ℕ, ◌<◌, Bool, true, false, cond, List, [], ◌∷◌, ◌++◌, map, length, get_or}
 use Rattle.std.proofs.Common.{slice_get, Bor, Option, Some, None, option_map, refl, ap, ap₂, ◌∙◌, subst, arith}
 use Rattle.std.specs.List.{AllByRecursion, list_any}
 use Rattle.std.specs.Slice.{IsItemAt}
@@ -159,16 +159,6 @@ module _ (s t : TablesView) (g : IsGrown s t) where
 
 -- ---- sets of numbers
 
--- so many states, and then no fewer
-pub sets-kept : (m n : ℕ) (sets : List (List ℕ)) → m ≤ n → AllByRecursion (λ ns. AllByRecursion (λ k. k < m) ns) sets
-    → AllByRecursion (λ ns. AllByRecursion (λ k. k < n) ns) sets
-sets-kept m n [] h each = tt
-sets-kept m n (ns ∷ sets) h each = (wider ns each.0, sets-kept m n sets h each.1)
-  where
-    wider : (ns : List ℕ) → AllByRecursion (λ k. k < m) ns → AllByRecursion (λ k. k < n) ns
-    wider [] k = tt
-    wider (x ∷ xs) k = (let here = k.0 in omega arith, wider xs k.1)
-
 -- a key that is put in passes as the others do
 pub each-key : {K V : Type 0} (eq : K → K → Bool) (view : K → V) (P : V → Type 0) (ks : List K) (k : K)
     → AllByRecursion P (map view ks) → P (view k) → AllByRecursion P (map view (insert_key eq ks k))
@@ -177,18 +167,6 @@ each-key eq view P ks k h p = by (list_any (eq k) ks)
     by : (b : Bool) → AllByRecursion P (map view (cond b ks (ks ++ k ∷ [])))
     by true = h
     by false = rw (map-append view ks (k ∷ [])) (all-push P (map view ks) (view k) h p)
-
--- no fewer elements after a key is put in
-pub no-fewer : {K V : Type 0} (eq : K → K → Bool) (view : K → V) (ks : List K) (k : K)
-    → length (map view ks) ≤ length (map view (insert_key eq ks k))
-no-fewer eq view ks k = by (list_any (eq k) ks)
-  where
-    by : (b : Bool) → length (map view ks) ≤ length (map view (cond b ks (ks ++ k ∷ [])))
-    by true = omega arith
-    by false =
-        let whole = map-append view ks (k ∷ []) in
-        let long = length-append (map view ks) (view k ∷ []) in
-        rw whole (omega (arith, long))
 
 -- ---- lists of numbers, one more each time
 

@@ -24,10 +24,6 @@ rules_at-get [] i d lt = absurd (omega arith)
 rules_at-get (l ∷ ls) zero d lt = refl
 rules_at-get (l ∷ ls) (suc i) d lt = rules_at-get ls i d (omega arith)
 
-pub length-lists : (ls : List (Vec Rule Global)) → length (rule_lists ls) ≡ length ls
-length-lists [] = refl
-length-lists (l ∷ ls) = ap suc (length-lists ls)
-
 pub one_more_list : (n : ℕ) → no_lists n ++ [] ∷ [] ≡ no_lists (suc n)
 one_more_list zero = refl
 one_more_list (suc n) = ap (λ x. [] ∷ x) (one_more_list n)

@@ -1,7 +1,7 @@
 -- A loop over a list that puts something for each element behind what was there.
 use Rattle.std.proofs.Common.{◌≡◌, ℕ, ◌<◌, ◌+◌, List, [], ◌∷◌, ◌++◌, map, length, take, get_or, sym, ap, ◌∙◌}
 use Rattle.std.specs.List.{flat_map}
-use Rattle.std.proofs.lemmas.List.{take_more, flat_map_more, map-append, append_assoc}
+use Rattle.std.proofs.lemmas.List.{take_more, flat_map_more, map-append}
 
 -- one more element, as it is seen
 pub views_more : {X Y : Type 0} (v : X → Y) (xs : List X) (i : ℕ) (x : X) → i < length xs → x ≡ get_or xs i x
@@ -16,9 +16,3 @@ pub loop_more : {X Y Z : Type 0} (v : X → Y) (f : Y → List Z) (old mid new :
 loop_more v f old mid new xs i x lt is before step =
     step ∙ ap (λ m. m ++ f (v x)) before ∙ flat_map_more f old (map v (take i xs)) (v x)
     ∙ ap (λ ys. old ++ flat_map f ys) (sym (views_more v xs i x lt is))
-
--- the same where the loop has a rest
-pub rest_more : {Y Z : Type 0} (f : Y → List Z) (mid new whole : List Z) (y : Y) (ys : List Y)
-    → mid ++ flat_map f (y ∷ ys) ≡ whole → new ≡ mid ++ f y → new ++ flat_map f ys ≡ whole
-rest_more f mid new whole y ys told step =
-    ap (λ m. m ++ flat_map f ys) step ∙ append_assoc mid (f y) (flat_map f ys) ∙ told

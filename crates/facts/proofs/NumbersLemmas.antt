@@ -1,16 +1,9 @@
 -- How facts get their numbers, step by step.
-use Rattle.std.proofs.Common.{◌≡◌, ℕ, ◌+◌, List, [], ◌∷◌, ◌++◌, length, Bool, false, ap, ◌∙◌, subst, arith}
-use Rattle.std.proofs.lemmas.List.{length-append, append_assoc}
+use Rattle.std.proofs.Common.{◌≡◌, ℕ, ◌+◌, List, [], ◌∷◌, ◌++◌, length, subst, arith}
+use Rattle.std.proofs.lemmas.List.{length-append}
 use Rattle.facts.specs.inner.Graphs.{NodeView}
-use Rattle.facts.specs.inner.FactNumbers.{unmarked_for, flags_of, flags_of_all, FactNumbersView, IsNumberedFrom}
+use Rattle.facts.specs.inner.FactNumbers.{flags_of, flags_of_all, FactNumbersView, IsNumberedFrom}
 use Rattle.facts.specs.inner.FactNumbers.{AreNumberedFrom}
-
--- one more flag
-pub flag_more : {X : Type 0} (marked more whole : List Bool) (x : X) (xs : List X)
-    → marked ++ unmarked_for (x ∷ xs) ≡ whole → more ≡ marked ++ false ∷ []
-    → more ++ unmarked_for xs ≡ whole
-flag_more marked more whole x xs told is =
-    ap (λ m. m ++ unmarked_for xs) is ∙ append_assoc marked (false ∷ []) (unmarked_for xs) ∙ told
 
 -- ---- package after package
 

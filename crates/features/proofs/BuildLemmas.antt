@@ -58,9 +58,6 @@ built-rows ds written =
     by (Ok x) (Ok y) (Err e) = refl
     by (Ok x) (Ok y) (Ok z) = ap (λ t. Ok (with_default t)) (with_implicit-rows (is_implicit ds written) ds written)
 
-pub default-there : (t : Table) → has_feature t default_feature ≡ true → t ≡ with_default t
-default-there t there = rw there refl
-
 pub default-put : (es new : List (List ℕ × Vec Entry Global)) (f : List ℕ) (v : Vec Entry Global)
     → has_feature (rows_of es) default_feature ≡ false → f ≡ default_feature → v.items ≡ []
     → new ≡ insert_entry text_cmp es f v → rows_of new ≡ with_default (rows_of es)

@@ -18,11 +18,6 @@ row_read [] v d within = absurd (omega arith)
 row_read (r ∷ rows) zero d within = refl
 row_read (r ∷ rows) (suc v) d within = row_read rows v d (omega arith)
 
-pub row_past : {E : Type 0} (rows : Rows E) (v : ℕ) → length rows ≤ v → row_at rows v ≡ []
-row_past [] v past = refl
-row_past (r ∷ rows) zero past = absurd (omega arith)
-row_past (r ∷ rows) (suc v) past = row_past rows v (omega arith)
-
 pub row_set_same : {E : Type 0} (rows : Rows E) (v : ℕ) (r : Vec E Global) → v < length rows
     → row_at (set rows v r) v ≡ r.items
 row_set_same [] v r within = absurd (omega arith)

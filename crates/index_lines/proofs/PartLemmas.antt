@@ -1,5 +1,5 @@
 -- What stands at the keys of an object is found member after member.
-use Rattle.std.proofs.Common.{◌≡◌, ℕ, List, Bool, true, false, Some, None, unwrap_or, codes, refl, sym}
+use Rattle.std.proofs.Common.{◌≡◌, ℕ, List, Bool, true, false, Some, unwrap_or, codes, refl, sym}
 use Rattle.std.proofs.Common.{ap, ◌∙◌, subst, true≢false}
 use Rattle.std.specs.Prelude.{if◌then◌else◌}
 use Rattle.serde_json.specs.Data.{Data, null, boolean, number, string, array, object, Members, no_members, put}
@@ -74,14 +74,6 @@ values_of-object (string s) ms is = cc
 values_of-object (array ds) ms is = cc
 values_of-object (object all) ms is = ap (λ o. values_in (unwrap_or o no_members)) is
 
-pub values_of-none : (d : Data) → None ≡ as_object d → values_in no_members ≡ values_of d
-values_of-none null is = refl
-values_of-none (boolean b) is = refl
-values_of-none (number n) is = refl
-values_of-none (string s) is = refl
-values_of-none (array ds) is = refl
-values_of-none (object ms) is = cc
-
 pub line_values_of-object : (d : Data) (ms : Members) → Some ms ≡ as_object d → line_values_in ms ≡ line_values_of d
 line_values_of-object null ms is = cc
 line_values_of-object (boolean b) ms is = cc
@@ -89,11 +81,3 @@ line_values_of-object (number n) ms is = cc
 line_values_of-object (string s) ms is = cc
 line_values_of-object (array ds) ms is = cc
 line_values_of-object (object all) ms is = ap (λ o. line_values_in (unwrap_or o no_members)) is
-
-pub line_values_of-none : (d : Data) → None ≡ as_object d → line_values_in no_members ≡ line_values_of d
-line_values_of-none null is = refl
-line_values_of-none (boolean b) is = refl
-line_values_of-none (number n) is = refl
-line_values_of-none (string s) is = refl
-line_values_of-none (array ds) is = refl
-line_values_of-none (object ms) is = cc

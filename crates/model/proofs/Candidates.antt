@@ -12,9 +12,6 @@ use Rattle.std.proofs.lemmas.List.Sorted.{IsPermutation-trans, IsPermutation-app
 use Rattle.std.proofs.lemmas.List.Sorted.{IsPermutation-filter_both, IsPermutation-middle, All-permutation}
 use Rattle.std.proofs.lemmas.List.Sorted.{Contains-permutation}
 use Rattle.model.proofs.Permuted.{pairs-permutation, rising-same}
-use Rattle.semver.specs.Eval.{precedence_cmp}
-use Rattle.semver.specs.Identifiers.{parts_of}
-use Rattle.semver.specs.declared.Version.{Version}
 use Rattle.semver.specs.OrderLaws.{pre_total}
 use Rattle.semver.specs.Parse.{Parts}
 use Rattle.model.specs.Order.{precedence}
@@ -43,10 +40,6 @@ preference-permutes locked rust cs =
     (IsPermutation-trans us (fs ++ os) (reverse fs ++ reverse os)
     (IsPermutation-filter_both (fits rust) (λ r. not (fits rust r)) (λ r. refl) us)
     (IsPermutation-append fs (reverse fs) os (reverse os) (IsPermutation-reverse fs) (IsPermutation-reverse os))))
-
--- precedence over plain data is the precedence of `semver`
-pub precedence-is : (v w : Version) → precedence_cmp v w ≡ precedence (parts_of v) (parts_of w)
-precedence-is v w = refl
 
 place-permutes : (r : Record) (es : List Record) → IsPermutation (r ∷ es) (put_in age_cmp r es)
 place-permutes r [] = IsPermutation-refl (r ∷ [])

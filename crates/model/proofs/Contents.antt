@@ -3,8 +3,7 @@ use Rattle.std.proofs.Common.{◌≡◌, ℕ, ◌<◌, length, List, [], ◌∷�
 use Rattle.std.proofs.Common.{slice_get, refl, sym, ap, ◌∙◌, subst, inl, inr, arith, nat_cmp, is_gt, Ordering, Less}
 use Rattle.std.proofs.Common.{Equal, Greater}
 use Rattle.std.specs.List.{All, AllPairs}
-use Rattle.std.specs.Ordering.{ordering_then, ordering_reverse, Ordering-set}
-use Rattle.std.specs.Coded.{le_prop}
+use Rattle.std.specs.Ordering.{ordering_then, ordering_reverse}
 use Rattle.std.specs.Cmp.Lexicographic.{nat_list_cmp_total}
 use Rattle.std.proofs.lemmas.Bool.{cases_order}
 use Rattle.std.proofs.lemmas.Cmp.{nat_cmp_total}
@@ -69,10 +68,6 @@ ordered-older p r o same =
     by Less b c e = refl
     by Equal b c e = refl
     by Greater b c e = let x : Greater ≡ Less = e in cc
-
--- to be a content says no more than that it is one
-pub IsContent-prop : (content : Content) → IsProp (IsContent content)
-IsContent-prop content = hlevel (Ordering-set, le_prop)
 
 module _ (content : Content) (formed : IsContent content) where
   -- a package that stands before another differs from it

@@ -237,10 +237,6 @@ sorted-neighbours {R = R} o v (x ∷ (y ∷ ys)) h =
       rest,
     )
 
--- neighbours that tie are alike
-any-true : {X : Type 0} (t : X → Bool) (x : X) (xs : List X) → t x ≡ true → list_any t (x ∷ xs) ≡ true
-any-true t x xs h = rw h refl
-
 pub alike-neighbours : {X K : Type 0} (e : K → K → Bool) (v : X → K) (xs : List X) (k : ℕ) → k + 1 < length xs
     → ((d : X) → e (v (get_or xs k d)) (v (get_or xs (k + 1) d)) ≡ true) → has_alike e (map v xs) ≡ true
 alike-neighbours e v [] k l h = absurd (omega arith)

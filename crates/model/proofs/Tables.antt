@@ -1,10 +1,9 @@
 -- What a feature table has once it is built.
 use Rattle.std.proofs.Common.{◌≡◌, ℕ, List, [], ◌∷◌, get_or, Bool, true, false, not, ◌&&◌, ◌||◌, cond, Contains, Option}
-use Rattle.std.proofs.Common.{Some, None, Result, Ok, Err, is_some, Ordering, Less, Equal, Greater, refl, sym, ap, ap₂}
+use Rattle.std.proofs.Common.{Some, None, Result, Ok, Err, is_some, Ordering, Less, Equal, Greater, refl, sym, ap}
 use Rattle.std.proofs.Common.{map, ◌∙◌, subst, inl, inr, true≢false}
-use Rattle.std.specs.BTreeMap.{insert_entry, is_at}
-use Rattle.std.specs.Map.{lookup}
-use Rattle.std.specs.Cmp.Lexicographic.{nat_list_cmp_total, texts_ties}
+use Rattle.std.specs.BTreeMap.{insert_entry}
+use Rattle.std.specs.Cmp.Lexicographic.{nat_list_cmp_total}
 use Rattle.std.specs.List.{list_any, All}
 use Rattle.std.specs.Ordering.{match_ordering, ordering_reverse}
 use Rattle.std.specs.Option.{option_or}
@@ -51,11 +50,6 @@ entries_at-with_row f k es (row ∷ rows) = by (text_cmp k row.0) refl (entries_
         apart true false x y = refl
         apart false true x y = refl
         apart false false x y = refl
-
--- the entries of a feature are what a map of the rows has at it
-pub entries_at-lookup : (f : List ℕ) (table : Table) → entries_at f table ≡ lookup (is_at (text_cmp f)) table
-entries_at-lookup f [] = refl
-entries_at-lookup f (row ∷ rows) = ap₂ (λ b o. cond b (Some row.1) o) (texts_ties f row.0) (entries_at-lookup f rows)
 
 -- rows with other values, each seen by view
 module _ {X Y : Type 0} (view : X → Y) where

@@ -75,10 +75,6 @@ levels_cut l low high (s ∷ ss) gone v above top first last = elim (cases_lt l 
   | inr le ↦ (v.0, levels_cut l s.level high ss gone v.1 above (sym (past_in l s ss le) ∙ top) le last)
 ]
 
-pub above_append : (l : ℕ) (xs ys : List StepView) → Above l xs → Above l ys → Above l (xs ++ ys)
-above_append l [] ys a b = b
-above_append l (x ∷ xs) ys a b = (a.0, above_append l xs ys a.1 b)
-
 -- what is past a level, where all that follows is above it
 pub past_append : (l : ℕ) (xs ys : List StepView) → Above l ys → past l (xs ++ ys) ≡ past l xs ++ ys
 past_append l [] [] a = refl

@@ -238,10 +238,6 @@ module _ (n v deps c features rest : List ℕ) (d f t : Data) (ms : json.Members
   line-is : data_of_bytes (line_of n v deps c features rest) ≡ Some (object (members_of ms (first_members n v d c f)))
   line-is = utf8-read read (line_of n v deps c features rest) _ line-text line-read
 
--- no text of its own nests deeper than a line
-pub within-line : (bytes : List ℕ) → data_within max_depth bytes ≡ data_of_bytes bytes
-within-line bytes = refl
-
 some-is : (o : Option Data) → is_some o ≡ true → (d : Data) × (o ≡ Some d)
 some-is None h = absurd (false≢true h)
 some-is (Some d) h = (d, refl)

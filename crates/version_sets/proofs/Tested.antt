@@ -4,7 +4,7 @@ use Rattle.std.proofs.Common.{◌||◌, eqb, List, [], ◌∷◌, ◌++◌, leng
 use Rattle.std.proofs.Common.{arith, inl, inr}
 use Rattle.std.proofs.lemmas.Bool.{cases_eq, cases_lt}
 use Rattle.std.proofs.lemmas.List.{get_or_append_left, length-append}
-use Rattle.std.proofs.lemmas.Nat.Bits.{bit_at-zero, bit_at-pow_same, bit_at-pow_other}
+use Rattle.std.proofs.lemmas.Nat.Bits.{bit_at-pow_same, bit_at-pow_other}
 use Rattle.version_sets.specs.Sets.{Members, has}
 use Rattle.version_sets.specs.inner.Listed.{set_where}
 use Rattle.version_sets.specs.inner.Words.{AreWordsOf, IsWords, has_bit}
@@ -15,10 +15,6 @@ use Rattle.version_sets.proofs.Listing.{set_agree, set_of_tests}
 pub record IsWordUpTo (tests : Members) (from place made : ℕ) : Type 0 where
   pub done : (j : ℕ) → j < place → bit_is made j ≡ has tests (from + j)
   pub others : (j : ℕ) → place ≤ j → bit_is made j ≡ false
-
-pub word_starts : (tests : Members) (from : ℕ) → IsWordUpTo tests from 0 0
-word_starts tests from =
-    record { done = λ j lt. absurd (omega (arith, lt)); others = λ j le. ap (λ k. eqb k 1) (bit_at-zero j) }
 
 pub word_more : (tests : Members) (from place made new : ℕ) → IsWordUpTo tests from place made
     → new ≡ cond (has tests (from + place)) (bit_or made (2 ^ place)) made → IsWordUpTo tests from (place + 1) new
