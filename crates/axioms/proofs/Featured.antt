@@ -7,8 +7,7 @@ use Rattle.std.proofs.lemmas.List.Folds.{list_any-append}
 use Rattle.semver.specs.Identifiers.{parts_of}
 use Rattle.semver.specs.declared.Version.{Version}
 use Rattle.model.specs.Summary.{same_text}
-use Rattle.model.specs.Content.{Candidate, candidates_of}
-use Rattle.model.specs.Optional.{passes}
+use Rattle.model.specs.Content.{Candidate, candidates_of, passes}
 use Rattle.model.specs.Vertices.{Owner, version_of}
 use Rattle.model.specs.Candidates.{Record, as_candidate}
 use Rattle.model.proofs.Same.{text-same, text-refl}
@@ -17,8 +16,7 @@ use Rattle.model.proofs.Mapped.{any-map}
 use Rattle.manifest.specs.Manifests.{ManifestView}
 use Rattle.model.specs.Causes.{owner_asks, owners_in}
 use Rattle.catalogue.specs.Problems.{problem_in}
-use Rattle.catalogue.specs.Ranks.{records}
-use Rattle.catalogue.specs.Stores.{CatalogueView, IsStore, Row, candidates_at, rows_by_name}
+use Rattle.catalogue.specs.Stores.{records, CatalogueView, IsStore, Row, candidates_at, rows_by_name}
 use Rattle.catalogue.proofs.LawsCatalogues.{store-catalogue}
 use Rattle.axioms.specs.inner.Asking.{row_owners_ask, version_asks}
 use Rattle.catalogue.proofs.Lookups.{candidates_are}

@@ -10,8 +10,7 @@ use Rattle.semver.specs.Identifiers.{parts_of}
 use Rattle.semver.specs.declared.Version.{Version}
 use Rattle.features.specs.inner.Texts.{has_text}
 use Rattle.model.specs.Summary.{Dependency, Entry, Table, nothing, asked_of_target, entries_at, has_feature, same_text}
-use Rattle.model.specs.Content.{Candidate, candidates_of}
-use Rattle.model.specs.Optional.{passes}
+use Rattle.model.specs.Content.{Candidate, candidates_of, passes}
 use Rattle.model.specs.Vertices.{the_root, version_of}
 use Rattle.model.proofs.Same.{text-same}
 use Rattle.model.proofs.Flips.{text-flips}
@@ -20,9 +19,8 @@ use Rattle.manifest.specs.Manifests.{ManifestView}
 use Rattle.manifest.specs.Manifests as manifest
 use Rattle.model.specs.Causes.{asks_for, entries_or_none, owner_asks, owners_in, same_pair}
 use Rattle.catalogue.specs.Problems.{problem_in}
-use Rattle.catalogue.specs.Ranks.{records}
+use Rattle.catalogue.specs.Stores.{records, CatalogueView, IsStore, Row, candidates_at, rows_by_name}
 use Rattle.model.specs.Candidates.{as_candidate}
-use Rattle.catalogue.specs.Stores.{CatalogueView, IsStore, Row, candidates_at, rows_by_name}
 use Rattle.axioms.specs.inner.Asking.{row_may_ask, row_names, row_owners_ask, version_asks}
 use Rattle.axioms.specs.inner.Gathered.{brings_in, is_asked_by_root, is_asked_by_some, is_asked_by_version, is_had}
 use Rattle.axioms.specs.inner.Gathered.{is_known_by, is_known_feature}

@@ -14,8 +14,7 @@ use Rattle.model.proofs.Mapped.{any-map}
 use Rattle.model.proofs.Same.{class-refl, version-refl}
 use Rattle.manifest.specs.Manifests.{ManifestView}
 use Rattle.catalogue.specs.Problems.{problem_in}
-use Rattle.catalogue.specs.Stores.{CatalogueView, candidates_at}
-use Rattle.catalogue.specs.Views.{Said, said, said_by}
+use Rattle.catalogue.specs.Stores.{CatalogueView, candidates_at, Said, said, said_by}
 use Rattle.catalogue.specs.declared.candidate.Candidate as held
 use Rattle.lookups.specs.inner.Ranges.{is_of}
 use Rattle.lookups.proofs.Classed.{class_is_of}

@@ -2,11 +2,9 @@
 use Rattle.std.proofs.Common.{◌≡◌, ℕ, Bool, false, List, Option, Some, None, option_map, slice_get, refl, sym, ap, ◌∙◌}
 use Rattle.std.proofs.lemmas.Option.{none-some, same_Some, slice_get-map}
 use Rattle.model.specs.Summary.{Summary}
-use Rattle.model.specs.Content.{Candidate, candidates_of}
-use Rattle.model.specs.Optional.{passes}
+use Rattle.model.specs.Content.{Candidate, candidates_of, passes}
 use Rattle.model.specs.Candidates.{Record, as_candidate}
-use Rattle.catalogue.specs.Stores.{CatalogueView, candidates_at, rows_by_name}
-use Rattle.catalogue.specs.Views.{Said, said}
+use Rattle.catalogue.specs.Stores.{CatalogueView, candidates_at, rows_by_name, Said, said}
 use Rattle.catalogue.proofs.Lookups.{candidates_are}
 
 none_passes : (t : Summary → Bool) (o : Option Record) → None ≡ option_map said o

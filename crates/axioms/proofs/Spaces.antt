@@ -10,13 +10,12 @@ use Rattle.semver.specs.declared.Version.{Version}
 use Rattle.model.specs.Summary.{Dependency}
 use Rattle.model.specs.Content.{Candidate, candidates_of}
 use Rattle.model.specs.Selection.{Class, class_of}
-use Rattle.model.specs.Vertices.{Vertex, root, pkg, dep, feat, ask, State, version, in_class, has_state}
+use Rattle.model.specs.Vertices.{pkg, State, version, in_class, has_state}
 use Rattle.model.specs.Vertices.{same_class, class_candidates, classes_of, dep_classes}
-use Rattle.model.specs.Axioms.{at, is_full, matched}
+use Rattle.model.specs.Axioms.{matched}
 use Rattle.model.specs.Candidates.{Record, as_candidate}
 use Rattle.model.proofs.Same.{class-same}
 use Rattle.manifest.specs.Manifests.{ManifestView}
-use Rattle.model.specs.Causes.{dependency_at}
 use Rattle.catalogue.specs.Problems.{problem_in}
 use Rattle.catalogue.specs.Stores.{CatalogueView, candidates_at, rows_by_name}
 use Rattle.axioms.specs.inner.FullTerms.{others, has_if_matched}

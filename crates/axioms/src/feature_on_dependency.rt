@@ -5,7 +5,7 @@ ghost use Rattle.semver.specs.Identifiers.{parts_of};
 ghost use Rattle.features.specs.EntryViews.{entry_view};
 ghost use Rattle.model.specs.Vertices.{version_of};
 ghost use Rattle.model.specs.Causes.{dependency_at, enables, is_cause, of_enabling};
-ghost use Rattle.model.specs.Optional.{passes};
+ghost use Rattle.model.specs.Content.{passes};
 ghost use Rattle.axioms.specs.inner.GatheredViews.{problem_of};
 ghost use Rattle.lookups.specs.inner.Views.{problem_view};
 

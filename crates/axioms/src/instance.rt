@@ -1,7 +1,7 @@
 //! Whether terms are those of an instance of an axiom.
 
 ghost use Rattle.std.specs.Prelude.{◌≡◌, IfOk};
-ghost use Rattle.vertices.specs.Kinds.{kind_view};
+ghost use Rattle.vertices.specs.Texts.{kind_view};
 ghost use Rattle.model.specs.inner.Instances.{is_instance, is_its};
 ghost use Rattle.lookups.specs.inner.CauseViews.{cause_view};
 ghost use Rattle.axioms.specs.inner.GatheredViews.{problem_of};

@@ -5,8 +5,7 @@
 //! alone, and stand in the written order. A term with all states of its vertex says nothing and is left out; whether a
 //! set is full is told by going over what its vertex may be, which ends at the first state that is missing.
 //!
-//! `kinds.rt` goes through the kinds; one that takes more than a function has a file of its name, and what several have
-//! stands in `terms.rt`.
+//! What the terms of each kind say is given by `lookups` (`SymbolicTerm`); `kinds.rt` makes states of that.
 //!
 //! Steps of few bytes may each ask what a large class has: which versions a requirement matches, or which lack a
 //! feature. So what was found of a class with more than a few versions is kept (`kept.rt`) by the name, the requirement
@@ -19,15 +18,14 @@
 
 mod features_had;
 mod full_terms;
-mod has_feature;
 mod instance;
 mod kept;
 mod kinds;
+mod lacking;
+mod matched;
 mod matched_classes;
-mod newest_listed;
-mod target;
 mod terms;
-mod wants_feature;
+mod unmatched;
 
 pub(crate) use instance::instance_terms;
 pub(crate) use kept::Kept;

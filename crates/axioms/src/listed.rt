@@ -7,7 +7,7 @@ ghost use Rattle.std.specs.Prelude.{◌≡◌, ◌&&◌, codes};
 ghost use Rattle.std.specs.List.{list_any};
 ghost use Rattle.semver.specs.Identifiers.{parts_of};
 ghost use Rattle.features.specs.Views.{dependency_view};
-ghost use Rattle.model.specs.Optional.{passes};
+ghost use Rattle.model.specs.Content.{passes};
 ghost use Rattle.model.specs.Summary.{asked_of_target, same_text};
 ghost use Rattle.model.specs.Causes.{dependency_at, has_entry, same_entry, some_entry};
 ghost use Rattle.vertices.specs.inner.RefViews.{owner_ref_view};

@@ -4,7 +4,7 @@ ghost use Rattle.std.specs.Prelude.{◌≡◌};
 ghost use Rattle.classes.specs.Classes.{class_view};
 ghost use Rattle.features.specs.Views.{dependency_view};
 ghost use Rattle.model.specs.Causes.{dependency_at, is_cause, is_overtaken, of_newest};
-ghost use Rattle.model.specs.Optional.{passes};
+ghost use Rattle.model.specs.Content.{passes};
 ghost use Rattle.vertices.specs.inner.RefViews.{owner_ref_view};
 ghost use Rattle.axioms.specs.inner.GatheredViews.{problem_of};
 

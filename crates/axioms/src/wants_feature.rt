@@ -5,7 +5,7 @@ ghost use Rattle.std.specs.List.{list_any};
 ghost use Rattle.semver.specs.Identifiers.{parts_of};
 ghost use Rattle.classes.specs.Classes.{class_view};
 ghost use Rattle.features.specs.Views.{dependency_view};
-ghost use Rattle.model.specs.Optional.{passes};
+ghost use Rattle.model.specs.Content.{passes};
 ghost use Rattle.model.specs.Causes.{dependency_at, is_cause, lists_feature, of_ask, of_list, root_asks_for};
 ghost use Rattle.model.specs.Causes.{same_pair};
 ghost use Rattle.vertices.specs.inner.RefViews.{owner_ref_view};

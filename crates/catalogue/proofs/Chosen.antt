@@ -31,8 +31,8 @@ use Rattle.index_lines.specs.Views.{record_view}
 use Rattle.index_lines.specs.declared.record.Record as reader
 use Rattle.catalogue.specs.Loads.{records_view, with_ranks}
 use Rattle.catalogue.specs.Runs.{as_record}
-use Rattle.catalogue.specs.Ranks.{Ranked, records, rank_of, rank_by, fits_given}
-use Rattle.catalogue.specs.Views.{ranked_of, ranked_view, AreRising, AreRead}
+use Rattle.catalogue.specs.Stores.{Ranked, records, rank_of, rank_by, fits_given, ranked_of, ranked_view, AreRising}
+use Rattle.catalogue.specs.Stores.{AreRead}
 use Rattle.catalogue.specs.declared.candidate.Candidate.{Candidate}
 
 -- what holds of a record that knows its features, and of one that brings valid parts

@@ -12,7 +12,7 @@ use Rattle.model.proofs.Candidates.{precedence_total}
 use Rattle.model.proofs.Lists.{all_none, all_cons, pairs_none}
 use Rattle.index_reader.specs.Files.{FileView, no_lines, same_precedence, has_version, with_skip, with_record}
 use Rattle.index_reader.specs.Files.{with_found, with_read, with_line, with_lines}
-use Rattle.trees.specs.Lines.{is_line_end, is_blank}
+use Rattle.trees.specs.Trees.{is_line_end, is_blank}
 use Rattle.index_lines.specs.Shapes.{Line}
 use Rattle.index_lines.specs.Records.{RecordView, is_checksum, unchecked_of_line}
 use Rattle.index_lines.specs.declared.fault.SkipReason.TheVariants.{Duplicate, BadChecksum}
@@ -21,7 +21,7 @@ use Rattle.index_lines.specs.Views.{record_view}
 use Rattle.index_lines.specs.declared.record.Record as reader
 use Rattle.catalogue.specs.Runs.{as_record, records_of}
 use Rattle.catalogue.specs.Loads.{IsWithin, file_of, records_view, skips_of}
-use Rattle.catalogue.specs.Views.{most_candidates}
+use Rattle.catalogue.specs.Stores.{most_candidates}
 use Rattle.catalogue.proofs.LineFacts.{full, full-few}
 
 -- so many records at most, no two of equal precedence

@@ -23,9 +23,7 @@ use Rattle.model.proofs.Candidates as model
 use Rattle.model.proofs.Lists.{all_none, all_cons, all_first, all_rest, pairs_none, pairs_all, pairs_rest}
 use Rattle.model.proofs.Same.{version-same, version-refl}
 use Rattle.model.proofs.Tests.{beside}
-use Rattle.catalogue.specs.Ranks.{records}
-use Rattle.catalogue.specs.Views.{said, record_of, said_by, ranked_view, AreRising}
-use Rattle.catalogue.specs.Stores.{record_at}
+use Rattle.catalogue.specs.Stores.{records, said, record_of, said_by, ranked_view, AreRising, record_at}
 use Rattle.catalogue.specs.declared.candidate.Candidate.{Candidate}
 use Rattle.catalogue.proofs.Rows.{item_at}
 

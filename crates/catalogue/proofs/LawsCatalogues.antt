@@ -6,9 +6,8 @@ use Rattle.std.proofs.lemmas.List.Kept.{AllPairs-filter}
 use Rattle.std.proofs.lemmas.List.Elements.{All-contains, All-map}
 use Rattle.model.specs.Summary.{KnowsFeatures}
 use Rattle.model.specs.Content.{Candidate, Content, Problem}
-use Rattle.model.specs.Order.{precedence}
+use Rattle.model.specs.Order.{precedence, IsCatalogue}
 use Rattle.model.specs.Candidates.{Record, RustVersion, IsApart, as_candidate, is_locked, may_be_locked}
-use Rattle.model.specs.WellFormed.{IsCatalogue}
 use Rattle.model.proofs.Candidates.{oldest_first-rises}
 use Rattle.model.proofs.Mapped.{pairs_map}
 use Rattle.model.proofs.Members.{all_in}
@@ -16,9 +15,7 @@ use Rattle.manifest.specs.Manifests.{ManifestView, root_asks}
 use Rattle.catalogue.specs.Runs.{Asked, Calls, records_of, candidates_in, AreNext}
 use Rattle.catalogue.specs.Loads.{IsLoaded, store_of, ranked_in}
 use Rattle.catalogue.specs.Problems.{IsProblemOfRun, candidates_by_name, problem_in, problem_of}
-use Rattle.catalogue.specs.Ranks.{records}
-use Rattle.catalogue.specs.Stores.{CatalogueView, Row, IsStore}
-use Rattle.catalogue.specs.Views.{AreRising, AreKnown}
+use Rattle.catalogue.specs.Stores.{records, CatalogueView, Row, IsStore, AreRising, AreKnown}
 use Rattle.catalogue.proofs.Chosen.{records-ranked}
 use Rattle.catalogue.proofs.LawsCandidates.{in_candidates}
 use Rattle.catalogue.proofs.LawsLists.{pairs_mapped}

@@ -4,8 +4,7 @@ use Rattle.std.specs.List.{All}
 use Rattle.model.specs.Content.{Content}
 use Rattle.model.proofs.Lists.{all_none, all_cons}
 use Rattle.manifest.specs.Manifests.{ManifestView}
-use Rattle.index_reader.specs.Folders.{Files, MemoryCalls, file_at}
-use Rattle.index_reader.specs.Paths.{path_of}
+use Rattle.index_reader.specs.Folders.{Files, MemoryCalls, file_at, path_of}
 use Rattle.catalogue.specs.Runs.{Asked, Chain, IsRun}
 use Rattle.catalogue.specs.Problems.{IsRunOver}
 

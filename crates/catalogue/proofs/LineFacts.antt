@@ -5,7 +5,7 @@ use Rattle.std.proofs.lemmas.Bool.{eqb-true}
 use Rattle.std.specs.List.{slice_split, onto_first, count_by}
 use Rattle.std.proofs.lemmas.List.Sums.{sum_by-cons}
 use Rattle.index_reader.specs.Files.{ends_open, line_count}
-use Rattle.trees.specs.Lines.{is_line_end}
+use Rattle.trees.specs.Trees.{is_line_end}
 
 -- how many parts have a byte
 abbrev pub full : List (List ℕ) → ℕ

@@ -5,8 +5,7 @@ use Rattle.semver.specs.Parse.{Parts}
 use Rattle.model.specs.Summary.{same_text}
 use Rattle.model.specs.Content.{same_version, candidates_of, candidate_at}
 use Rattle.model.specs.Candidates.{Record, as_candidate}
-use Rattle.catalogue.specs.Ranks.{records}
-use Rattle.catalogue.specs.Stores.{CatalogueView, Row, row_at, candidates_at, record_at, rows_by_name}
+use Rattle.catalogue.specs.Stores.{records, CatalogueView, Row, row_at, candidates_at, record_at, rows_by_name}
 
 rows_found : (rows : List Row) (name : List ℕ)
     → candidates_of (map (λ row. (row.0, map as_candidate (records row.1))) rows) name

@@ -95,7 +95,8 @@ distinct-snoc (n ∷ ns) name d h =
 
 module _ {S : Type 0} where
   pub no_places : (m : HashMap (List ℕ) ℕ S) → IsEmpty m → ArePlaces [] m
-  no_places m e = record { valid = all_none IsPackageName; once = distinct-none; found = λ name. ap (lookup (same_text name)) e }
+  no_places m e =
+      record { valid = all_none IsPackageName; once = distinct-none; found = λ name. ap (lookup (same_text name)) e }
 
   pub same_places : (names : List (List ℕ)) (m n : HashMap (List ℕ) ℕ S) → IsUnchanged m n
       → ArePlaces names m → ArePlaces names n

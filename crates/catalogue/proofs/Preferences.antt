@@ -5,7 +5,8 @@ use Rattle.std.proofs.Common.{Result, Ok, Err, Vec, IfOk, refl, sym, ap, ap₂, 
 use Rattle.std.specs.declared.alloc.AllocError.{AllocError}
 use Rattle.std.specs.declared.alloc.Global.{Global}
 use Rattle.semver.specs.declared.Version.{Version}
-use Rattle.catalogue.specs.Views.{ranked_view}
+use Rattle.catalogue.specs.Stores.{ranked_view, same_rank, rank_by, rank_of, Ranked, AreRanked, records, places_down}
+use Rattle.catalogue.specs.Stores.{is_ranked, places_of, places_by_rank}
 use Rattle.std.specs.List.Sorted.{IsPermutation}
 use Rattle.std.proofs.Math.ListN.{get_or-map}
 use Rattle.std.proofs.lemmas.List.{append-nil, append_assoc, map-append, reverse-append, take_more, length-map}
@@ -17,8 +18,6 @@ use Rattle.std.proofs.lemmas.Option.{slice_get-map, slice_get-get_or}
 use Rattle.semver.specs.Parse.{Parts}
 use Rattle.model.specs.Candidates.{RustVersion, Record, fits, locked_ones, fitting_ones, other_ones, by_preference}
 use Rattle.model.proofs.Lists.{all_first, all_rest}
-use Rattle.catalogue.specs.Ranks.{same_rank, rank_by, rank_of, Ranked, AreRanked, records, places_down, is_ranked}
-use Rattle.catalogue.specs.Ranks.{places_of, places_by_rank}
 use Rattle.catalogue.specs.declared.candidate.Candidate.{Candidate}
 use Rattle.catalogue.specs.declared.candidate.Rank.{Rank}
 use Rattle.catalogue.specs.declared.candidate.Rank.TheVariants.{Locked, Fits, Rest}

@@ -18,10 +18,9 @@ use Rattle.model.specs.Candidates.{Record}
 use Rattle.model.proofs.Lists.{all_none, all_cons, all_first, all_rest, pairs_none}
 use Rattle.features.specs.inner.Valid.{IsPackageName}
 use Rattle.model.proofs.Same.{text-refl}
-use Rattle.catalogue.specs.Views.{AreRead, AreRising, AreKnown, BringValid, most_candidates, ranked_of, ranked_view}
-use Rattle.catalogue.specs.Views.{record_of}
-use Rattle.catalogue.specs.Ranks.{Ranked, records}
-use Rattle.catalogue.specs.Stores.{CatalogueView, Row, row_at, ranked_at, rows_view, candidates_view, IsStore}
+use Rattle.catalogue.specs.Stores.{AreRead, AreRising, AreKnown, BringValid, most_candidates, ranked_of, ranked_view}
+use Rattle.catalogue.specs.Stores.{record_of, Ranked, records, CatalogueView, Row, row_at, ranked_at, rows_view}
+use Rattle.catalogue.specs.Stores.{candidates_view, IsStore}
 use Rattle.catalogue.specs.declared.candidate.Candidate.{Candidate}
 use Rattle.catalogue.specs.declared.candidates.Candidates.{Candidates}
 

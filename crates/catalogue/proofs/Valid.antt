@@ -12,9 +12,7 @@ use Rattle.features.specs.inner.Valid.{IsFeatureName, IsPackageName, IsValidEntr
 use Rattle.vertices.specs.inner.Valid.{HasValidParts, IsValidRecord}
 use Rattle.manifest.specs.Manifests.{ManifestView, asked_by, root_asks}
 use Rattle.catalogue.specs.Problems.{problem_in}
-use Rattle.catalogue.specs.Ranks.{records}
-use Rattle.catalogue.specs.Stores.{CatalogueView, IsStore, Row}
-use Rattle.catalogue.specs.Views.{BringValid}
+use Rattle.catalogue.specs.Stores.{records, CatalogueView, IsStore, Row, BringValid}
 
 -- ---- what entries of the root ask for
 
@@ -59,7 +57,8 @@ valid_parts m c brings store = record {
   brings = brings;
   root_asks = rows_ask m.brings.features brings.features;
   candidates = All-map (λ (row : List ℕ × List Candidate). IsPackageName row.0 × All IsValidRecord row.1) by_name c.rows
-      (all_in (λ (row : Row). IsPackageName row.0 × All IsValidRecord (map as_candidate (records row.1))) c.rows (λ row i. (
+      (all_in (λ (row : Row). IsPackageName row.0 × All IsValidRecord (map as_candidate (records row.1))) c.rows
+            (λ row i. (
         All-contains (λ (row : Row). IsPackageName row.0) c.rows row store.names_valid i,
         valid_records (records row.1)
             (All-contains (λ (row : Row). All (λ (r : Record). IsValid r.version) (records row.1)) c.rows row

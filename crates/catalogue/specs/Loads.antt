@@ -8,24 +8,20 @@ use Rattle.std.specs.List.{All}
 use Rattle.std.specs.declared.alloc.Global.{Global}
 use Rattle.semver.specs.Parse.{Parts}
 use Rattle.semver.specs.Identifiers.{parts_of}
-use Rattle.model.specs.Content.{Content, Package, same_option}
-use Rattle.model.specs.Optional.{packages_if}
+use Rattle.model.specs.Content.{Content, Package, same_option, packages_if}
 use Rattle.model.specs.Candidates.{Record as ModelRecord, RustVersion, candidates_among, is_locked, preferred_rust}
 use Rattle.model.specs.Candidates.Prefer.{newest, rust_first}
 use Rattle.model.specs.Summary.{Dependency, same_text}
-use Rattle.index_reader.specs.Folders.{Answer, IsRisen}
-use Rattle.index_reader.specs.Files.{SkipView, FileView, no_lines, line_count, records_of_file}
-use Rattle.index_reader.specs.Paths.{path_of}
+use Rattle.index_reader.specs.Folders.{Answer, IsRisen, path_of}
+use Rattle.index_reader.specs.Files.{SkipView, FileView, no_lines, line_count, records_of_file, contents_view}
 use Rattle.index_lines.specs.Views.{record_view}
-use Rattle.index_reader.specs.Views.{contents_view}
 use Rattle.index_reader.specs.declared.folder.FolderFault.TheVariants.{Failed}
 use Rattle.index_lines.specs.declared.record.Record.{Record}
 use Rattle.index_reader.specs.declared.skip.Skip.{Skip}
-use Rattle.catalogue.specs.Ranks.{Ranked, rank_of}
+use Rattle.catalogue.specs.Stores.{Ranked, rank_of, CatalogueView, candidates_view, candidates_at, record_at, Said}
+use Rattle.catalogue.specs.Stores.{said}
 use Rattle.features.specs.Views.{dependency_views}
 use Rattle.catalogue.specs.Runs.{Asked, Calls, Chain, as_record, meant_by, records_of, AreNext, next_name}
-use Rattle.catalogue.specs.Stores.{CatalogueView, candidates_view, candidates_at, record_at}
-use Rattle.catalogue.specs.Views.{Said, said}
 use Rattle.catalogue.specs.declared.store.Prefer.{Prefer}
 use Rattle.catalogue.specs.declared.store.Prefer.TheVariants as prefer
 use Rattle.catalogue.specs.declared.candidates.Candidates.{Candidates}

@@ -6,8 +6,7 @@ use Rattle.model.specs.Content.{Candidate, Content, Package, Problem}
 use Rattle.model.specs.Candidates.{Record, as_candidate, is_locked}
 use Rattle.manifest.specs.Manifests.{ManifestView, root_asks}
 use Rattle.catalogue.specs.Runs.{Asked, Calls, IsRun, candidates_in, records_of, AreNext, next_name}
-use Rattle.catalogue.specs.Ranks.{Ranked, records, same_rank}
-use Rattle.catalogue.specs.Stores.{CatalogueView, rows_by_name}
+use Rattle.catalogue.specs.Stores.{Ranked, records, same_rank, CatalogueView, rows_by_name}
 use Rattle.catalogue.specs.declared.candidate.Rank.{Rank}
 use Rattle.catalogue.specs.declared.candidate.Rank.TheVariants.{Locked, Fits, Rest}
 

@@ -5,8 +5,7 @@ use Rattle.std.specs.Prelude.{flat_map}
 use Rattle.model.specs.Summary.{Dependency, same_text}
 use Rattle.model.specs.Content.{Content}
 use Rattle.model.specs.Candidates.{Record, candidates_among, is_locked}
-use Rattle.index_reader.specs.Folders.{Answer}
-use Rattle.index_reader.specs.Paths.{path_of}
+use Rattle.index_reader.specs.Folders.{Answer, path_of}
 use Rattle.index_lines.specs.Records.{RecordView}
 use Rattle.index_reader.specs.Files.{records_of_file}
 

@@ -1,18 +1,155 @@
 -- What a loaded index holds: for each name that was asked for its candidates, oldest first, each with its rank (Cargo
 -- book, "Registry Index").
-use Rattle.std.specs.Prelude.{◌≢◌, ◌≤◌, ℕ, length, if◌then◌else◌, List, [], ◌∷◌, map, Option, Some, None, unwrap_or}
+use Rattle.std.specs.Prelude.{◌≡◌, ℕ, zero, suc, Bool, true, false, List, [], ◌∷◌, ◌++◌, Option, Some, None, map}
+use Rattle.std.specs.Prelude.{filter, length, slice_get, option_map, ◌≢◌, ◌≤◌, if◌then◌else◌, unwrap_or}
 use Rattle.std.specs.List.{All, AllPairs, zip}
-use Rattle.semver.specs.Grammar.{IsValid}
 use Rattle.semver.specs.Parse.{Parts}
-use Rattle.model.specs.Summary.{same_text}
-use Rattle.model.specs.Content as model
+use Rattle.model.specs.Candidates.{RustVersion, Record, fits, is_at_most, IsOlder, as_candidate}
+use Rattle.catalogue.specs.declared.candidate.Rank.{Rank}
+use Rattle.catalogue.specs.declared.candidate.Rank.TheVariants.{Locked, Fits, Rest}
+use Rattle.semver.specs.Identifiers.{parts_of}
+use Rattle.semver.specs.Grammar.{IsValid}
+use Rattle.semver.specs.declared.Version.{Version}
+use Rattle.model.specs.Summary.{KnowsFeatures, Entry, feature, dependency, dependency_feature, weak_feature, same_text}
+use Rattle.std.proofs.Props.{props}
+use Rattle.features.specs.inner.Valid.{BringsValid, IsValidEntry, IsPackageName}
+use Rattle.features.specs.Views.{summary_view}
+use Rattle.classes.specs.Classes.{rust_version_view}
+use Rattle.catalogue.specs.declared.candidate.Candidate.{Candidate}
 use Rattle.model.specs.Content.{same_version}
-use Rattle.model.specs.Candidates.{Record, as_candidate}
-use Rattle.features.specs.inner.Valid.{IsPackageName}
 use Rattle.index_reader.specs.Files.{SkipView}
-use Rattle.catalogue.specs.Ranks.{Ranked, records}
-use Rattle.catalogue.specs.Views.{ranked_view, AreRising, AreKnown, BringValid, most_candidates}
 use Rattle.catalogue.specs.declared.candidates.Candidates.{Candidates}
+use Rattle.model.specs.Summary as summary
+use Rattle.model.specs.Content as model
+
+-- ---- Where a candidate stands in the order of preference (Cargo book, "Dependency Resolution", yanked versions and
+-- "Rust
+-- version").
+
+abbrev pub same_rank : Rank → Rank → Bool
+same_rank Locked Locked = true
+same_rank Locked Fits = false
+same_rank Locked Rest = false
+same_rank Fits Locked = false
+same_rank Fits Fits = true
+same_rank Fits Rest = false
+same_rank Rest Locked = false
+same_rank Rest Fits = false
+same_rank Rest Rest = true
+
+-- the rank of a record that is locked or not, and fits or not
+abbrev pub rank_by : Bool → Bool → Rank
+rank_by true fitting = Locked
+rank_by false true = Fits
+rank_by false false = Rest
+
+-- whether what a record needs fits the Rust version to go by
+abbrev pub fits_given : Option RustVersion → Option RustVersion → Bool
+fits_given None needed = true
+fits_given (Some rust) needed = is_at_most needed rust
+
+-- the rank of a record, with the test for those that are locked and the Rust version to go by
+abbrev pub rank_of : (Parts → Bool) → Option RustVersion → Record → Rank
+rank_of locked rust r = rank_by (locked r.version) (fits rust r)
+
+-- a candidate with its rank
+abbrev pub Ranked : Type 0
+Ranked = Record × Rank
+
+-- each has the rank that this test and this Rust version give it
+abbrev pub AreRanked : (Parts → Bool) → Option RustVersion → List Ranked → Type 0
+AreRanked locked rust cs = All (λ c. c.1 ≡ rank_of locked rust c.0) cs
+
+abbrev pub records : List Ranked → List Record
+records cs = map (λ c. c.0) cs
+
+-- the places below n, the last first
+abbrev pub places_down : ℕ → List ℕ
+places_down zero = []
+places_down (suc n) = n ∷ places_down n
+
+abbrev pub is_ranked : Rank → Option Rank → Bool
+is_ranked rank None = false
+is_ranked rank (Some other) = same_rank other rank
+
+-- the places of a rank, the last first
+abbrev pub places_of : Rank → List Rank → List ℕ
+places_of rank ranks = filter (λ i. is_ranked rank (slice_get ranks i)) (places_down (length ranks))
+
+-- the places by rank, in each rank the last first
+abbrev pub places_by_rank : List Rank → List ℕ
+places_by_rank ranks = places_of Locked ranks ++ (places_of Fits ranks ++ places_of Rest ranks)
+
+-- ---- What candidates stand for, without where they lie in memory.
+
+-- what the index says of a version
+abbrev pub record_of : Version → Candidate → Record
+record_of v c = record {
+  version = parts_of v;
+  checksum = c.checksum;
+  yanked = c.yanked;
+  rust_version = option_map rust_version_view c.rust_version;
+  brings = summary_view c.brings;
+}
+
+abbrev pub ranked_of : Version × Candidate → Ranked
+ranked_of p = (record_of p.0 p.1, p.1.rank)
+
+-- versions, and at the same places what the index says of each
+abbrev pub ranked_view : List Version → List Candidate → List Ranked
+ranked_view versions cs = map ranked_of (zip versions cs)
+
+-- the same of a record beside its version
+pub record Said : Type 0 where
+  pub checksum : List ℕ
+  pub yanked : Bool
+  pub rust_version : Option RustVersion
+  pub brings : summary.Summary
+
+abbrev pub said : Record → Said
+said r = record { checksum = r.checksum; yanked = r.yanked; rust_version = r.rust_version; brings = r.brings }
+
+abbrev pub said_by : Candidate → Said
+said_by c = record {
+  checksum = c.checksum;
+  yanked = c.yanked;
+  rust_version =
+      option_map rust_version_view c.rust_version;
+  brings = summary_view c.brings;
+}
+
+-- oldest first, no two of equal precedence
+abbrev pub AreRising : List Ranked → Type 0
+AreRising cs = AllPairs IsOlder (records cs)
+
+-- how many candidates a name has at most: as many as its file has lines
+abbrev pub most_candidates : ℕ
+most_candidates = 65535
+
+-- in the feature table of each, an entry `g` names a feature of the same table
+abbrev pub KnowFeatures : List Record → Type 0
+KnowFeatures rs = All (λ r. KnowsFeatures (r.brings).features) rs
+
+-- the same of candidates with their ranks
+abbrev pub AreKnown : List Ranked → Type 0
+AreKnown cs = KnowFeatures (records cs)
+
+-- each brings names that are names, and no more dependencies than there are numbers of 32 bits
+abbrev pub BringValid : List Record → Type 0
+BringValid rs = All (λ r. BringsValid r.brings) rs
+
+valid-entry-prop : (e : Entry) → IsProp (IsValidEntry e)
+valid-entry-prop (feature g) = Prim.hlevel props
+valid-entry-prop (dependency d) = Prim.hlevel props
+valid-entry-prop (dependency_feature d g) = Prim.hlevel props
+valid-entry-prop (weak_feature d g) = Prim.hlevel props
+
+pub bring-valid-prop : (rs : List Record) → IsProp (BringValid rs)
+bring-valid-prop rs = Prim.hlevel (props, valid-entry-prop)
+
+-- each version is what its text reads as
+abbrev pub AreRead : List Version → Type 0
+AreRead versions = All (λ v. IsValid (parts_of v)) versions
 
 -- a name and its candidates
 abbrev pub Row : Type 0

@@ -1,7 +1,7 @@
 //! A candidate: what the index says of a version that may be locked.
 
 ghost use Rattle.std.specs.Prelude.{◌≡◌};
-ghost use Rattle.catalogue.specs.Ranks.{same_rank};
+ghost use Rattle.catalogue.specs.Stores.{same_rank};
 
 use crate::checksum::Checksum;
 use classes::RustVersion;

@@ -1,9 +1,8 @@
 //! The candidates of a name.
 
 ghost use Rattle.std.specs.Prelude.{◌≡◌, ◌≤◌, length};
-ghost use Rattle.catalogue.specs.Ranks.{records};
-ghost use Rattle.catalogue.specs.Views.{ranked_view, AreRising, AreRead, AreKnown, BringValid, bring-valid-prop};
-ghost use Rattle.catalogue.specs.Views.{most_candidates};
+ghost use Rattle.catalogue.specs.Stores.{records, ranked_view, AreRising, AreRead, AreKnown, BringValid};
+ghost use Rattle.catalogue.specs.Stores.{bring-valid-prop, most_candidates};
 
 use crate::candidate::Candidate;
 use semver::Version;
@@ -18,5 +17,6 @@ pub(crate) struct Candidates {
     ghost read: { AreRead versions.items },
     ghost few: { length candidates.items ≤ most_candidates },
     ghost known: { AreKnown (ranked_view versions.items candidates.items) },
-    ghost valid: { BringValid (records (ranked_view versions.items candidates.items)) } by { bring-valid-prop (records (ranked_view versions.items candidates.items)) },
+    ghost valid: { BringValid (records (ranked_view versions.items candidates.items)) }
+        by { bring-valid-prop (records (ranked_view versions.items candidates.items)) },
 }

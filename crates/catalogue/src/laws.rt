@@ -7,10 +7,9 @@ ghost use Rattle.std.specs.Prelude.{◌≡◌, ◌≤◌, ℕ, List, [], Option,
 ghost use Rattle.model.specs.Content.{Content, Package};
 ghost use Rattle.model.specs.Candidates.{Record};
 ghost use Rattle.model.specs.Selection.{IsOther, IsValidSelection};
-ghost use Rattle.model.specs.WellFormed.{IsCatalogue};
+ghost use Rattle.model.specs.Order.{IsCatalogue};
 ghost use Rattle.manifest.specs.Manifests.{ManifestView};
-ghost use Rattle.index_reader.specs.Folders.{Files, MemoryCalls, file_at};
-ghost use Rattle.index_reader.specs.Paths.{path_of};
+ghost use Rattle.index_reader.specs.Folders.{Files, MemoryCalls, file_at, path_of};
 ghost use Rattle.catalogue.specs.Runs.{AreNext, Asked, IsRun, records_of};
 ghost use Rattle.catalogue.specs.Problems.{IsRunOver, KeepsYanked, names_in, problem_in, problem_of};
 

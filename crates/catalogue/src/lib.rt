@@ -6,8 +6,10 @@
 //! closed under dependencies, and a valid selection has no others. Contracts tell a load by the chain of the folder's
 //! calls (`Loads`), for any folder.
 //!
-//! Candidates stand oldest first, so a version, a class, or the ends between which a requirement can match (`bounds.rt`)
-//! are found by search. How each is preferred is kept beside it as a rank, since the locked come first, and then, if that
+//! Candidates stand oldest first, so a version, a class, or the ends between which a requirement can match
+//! (`bounds.rt`)
+//! are found by search. How each is preferred is kept beside it as a rank, since the locked come first, and then, if
+//! that
 //! is asked for, those that the manifest's Rust version fits.
 //!
 //! At most 65,536 names are asked for. The fault comes when one more would be, before the folder is called, so that a
@@ -19,7 +21,8 @@
 //! A layer above may rely on this: each reader of a `Catalogue` is exact; names stand once, versions rise, at most
 //! 65,535 a name, and feature tables know their features, so that the laws of `model` hold with no premise
 //! (`catalogues_are_well_formed`); names and versions are valid ones, and dependencies have numbers of 32 bits, for no
-//! file that is read has room for more of them. Over a fixed index a valid selection is one with itself as the old lock,
+//! file that is read has room for more of them. Over a fixed index a valid selection is one with itself as the old
+//! lock,
 //! and that run asks for no other names (`laws.rt`).
 #![tactic(auto)]
 

@@ -2,16 +2,15 @@
 
 ghost use Rattle.std.specs.Prelude.{◌≡◌, ℕ, IfOk, IfSome, List, OnOk, Some, map, option_map, true};
 ghost use Rattle.std.specs.List.{list_any};
-ghost use Rattle.classes.specs.RustVersions.{rust_version_view};
-ghost use Rattle.index_reader.specs.Views.{skip_view};
+ghost use Rattle.classes.specs.Classes.{rust_version_view};
+ghost use Rattle.index_reader.specs.Files.{skip_view};
 ghost use Rattle.model.specs.Summary.{same_text};
 ghost use Rattle.features.specs.Views.{dependency_views};
 ghost use Rattle.catalogue.specs.Loads.{packages_of_old, needs_of, Asks, AsksAll, differs, has_changed, Checks};
 ghost use Rattle.catalogue.specs.Loads.{rust_for, Loads};
 ghost use Rattle.catalogue.specs.inner.Names.{insert_key, insert_all};
 ghost use Rattle.catalogue.specs.Problems.{IsProblemOfRun, problem_in};
-ghost use Rattle.catalogue.specs.Stores.{candidates_at, record_at};
-ghost use Rattle.catalogue.specs.Views.{said};
+ghost use Rattle.catalogue.specs.Stores.{candidates_at, record_at, said};
 ghost use Rattle.lockfile.specs.inner.Views.{package_view, package_views};
 ghost use Rattle.model.specs.Content.{same_option};
 ghost use Rattle.catalogue.specs.Runs.{meant_by};

@@ -10,10 +10,10 @@ ghost use Rattle.semver.specs.Eval.{precedence_cmp};
 ghost use Rattle.semver.specs.Identifiers.{parts_of};
 ghost use Rattle.semver.specs.Parse.{Parts};
 ghost use Rattle.model.specs.Candidates.{RustVersion as Rust, by_preference};
-ghost use Rattle.index_reader.specs.Views.{skip_view};
-ghost use Rattle.catalogue.specs.Ranks.{AreRanked, places_down, places_of, places_by_rank};
-ghost use Rattle.catalogue.specs.Views.{said, said_by, AreRead, most_candidates};
-ghost use Rattle.catalogue.specs.Stores.{row_at, ranked_at, candidates_at, record_at, candidates_view, IsStore};
+ghost use Rattle.index_reader.specs.Files.{skip_view};
+ghost use Rattle.catalogue.specs.Stores.{AreRanked, places_down, places_of, places_by_rank, said, said_by, AreRead};
+ghost use Rattle.catalogue.specs.Stores.{most_candidates, row_at, ranked_at, candidates_at, record_at, candidates_view};
+ghost use Rattle.catalogue.specs.Stores.{IsStore};
 
 use crate::candidate::{Candidate, Rank};
 use crate::candidates::Candidates;
@@ -47,7 +47,7 @@ pub struct Catalogue {
 
 impl Model for Catalogue {
     ghost use Rattle.std.specs.Prelude.{◌≡◌, map, length, string_bytes};
-    ghost use Rattle.index_reader.specs.Views.{skip_view};
+    ghost use Rattle.index_reader.specs.Files.{skip_view};
     ghost use Rattle.std.specs.List.{All, IsDistinct};
     ghost use Rattle.features.specs.inner.Valid.{IsPackageName};
     ghost use Rattle.model.specs.Summary.{same_text};

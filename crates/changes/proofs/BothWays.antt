@@ -10,9 +10,8 @@ use Rattle.facts.specs.declared.rule.Rule.{Rule}
 use Rattle.facts.specs.inner.Chains.{AreBelow, IsGiven, has}
 use Rattle.facts.specs.inner.Chains.IsGiven.{begins, follows}
 use Rattle.model.proofs.Lists.{in_cons, in_map, in_none, to_map}
-use Rattle.model.specs.Content.{Content, Package, list_if}
-use Rattle.model.specs.Optional.{passes}
-use Rattle.model.specs.WellFormed.{IsContent}
+use Rattle.model.specs.Content.{Content, Package, list_if, passes}
+use Rattle.model.specs.Order.{IsContent}
 use Rattle.changes.specs.inner.OnWays.{AreBetween, AreOnWays, IsOnWay, all_pairs, are_both, pairs_at, pairs_below}
 use Rattle.changes.specs.inner.OnWays.{rule, rules_ahead, rules_back}
 use Rattle.changes.specs.inner.Searches.{is_in}

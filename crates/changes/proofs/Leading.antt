@@ -1,15 +1,14 @@
 -- Ways back through visits, and that a search in its end knows whether there is a way.
-use Rattle.std.proofs.Common.{◌≡◌, ◌<◌, ◌≤◌, ◌+◌, ◌&&◌, ℕ, zero, suc, Bool, true, false, List, [], ◌∷◌, ◌++◌, None}
+use Rattle.std.proofs.Common.{◌≡◌, ◌<◌, ◌≤◌, ◌+◌, ◌&&◌, ℕ, zero, suc, Bool, true, false, List, [], ◌∷◌, ◌++◌}
 use Rattle.std.proofs.Common.{Some}
-use Rattle.std.proofs.Common.{length, reverse, refl, sym, ap, subst, ◌∙◌, inl, inr, arith, true≢false}
+use Rattle.std.proofs.Common.{length, reverse, sym, ap, subst, ◌∙◌, arith, true≢false}
 use Rattle.std.specs.List.{slice_get}
 use Rattle.std.proofs.lemmas.Bool.{and_from, and_parts}
 use Rattle.std.proofs.lemmas.List.{reverse-append}
 use Rattle.std.proofs.lemmas.Option.{same_Some, slice_get_within}
-use Rattle.model.specs.Content.{Content, Package}
-use Rattle.model.specs.Optional.{passes}
-use Rattle.changes.specs.inner.Searches.{AreBehind, AreLed, AreSorted, IsBehind, IsLed, IsSearched, IsVisited, is_end}
-use Rattle.changes.specs.inner.Ways.{HasNoWay, is_way, leads, lists}
+use Rattle.model.specs.Content.{Content, Package, passes}
+use Rattle.changes.specs.inner.Searches.{AreLed, IsBehind, IsLed, IsSearched, IsVisited, is_end}
+use Rattle.changes.specs.inner.Ways.{is_way, leads, lists}
 use Rattle.changes.specs.declared.searching.Visit.{Visit}
 
 -- ---- back from a visit

@@ -12,9 +12,8 @@ use Rattle.std.proofs.lemmas.Option.{none-some, same_Some, slice_get_within}
 use Rattle.facts.specs.inner.Chains.{has}
 use Rattle.facts.specs.inner.Worklists.{unmarked}
 use Rattle.facts.proofs.ListLemmas.{in_cons, in_none}
-use Rattle.model.specs.Content.{Content, Package, list_if}
-use Rattle.model.specs.Optional.{passes}
-use Rattle.model.specs.WellFormed.{IsContent}
+use Rattle.model.specs.Content.{Content, Package, list_if, passes}
+use Rattle.model.specs.Order.{IsContent}
 use Rattle.changes.specs.inner.Searches.{AreBegun, IsSearched, IsSearching, IsVisited, is_end, is_in, places_below}
 use Rattle.changes.specs.inner.Searches.{seen_with, visited}
 use Rattle.changes.specs.inner.Ways.{HasNoWay, IsShortest, is_way, lists}

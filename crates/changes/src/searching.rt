@@ -5,10 +5,9 @@ ghost use Rattle.std.specs.Prelude.{slice_get, slice_set, IfOk, OnOk, Some, opti
 ghost use Rattle.std.specs.List.{All, find};
 ghost use Rattle.semver.specs.Identifiers.{parts_of};
 ghost use Rattle.lockfile.specs.inner.Views.{package_view, package_views};
-ghost use Rattle.model.specs.Content.{Content, list_if};
-ghost use Rattle.model.specs.Optional.{passes};
+ghost use Rattle.model.specs.Content.{Content, list_if, passes};
 ghost use Rattle.model.specs.Content as model;
-ghost use Rattle.model.specs.WellFormed.{IsContent};
+ghost use Rattle.model.specs.Order.{IsContent};
 ghost use Rattle.facts.specs.inner.Chains.{has};
 ghost use Rattle.changes.specs.inner.Searches.{AreBehind, AreLed, IsBehind, IsLed, IsSearched, is_end, places_below};
 ghost use Rattle.changes.specs.inner.Searches.{seen_with, visited};

@@ -2,24 +2,20 @@
 use Rattle.std.proofs.Common.{◌≡◌, ℕ, List, map, filter, true, ◌&&◌, Some, None, slice_get, sym, ap, ◌∙◌}
 use Rattle.std.specs.List.{list_all}
 use Rattle.semver.specs.Identifiers.{parts_of}
-use Rattle.semver.specs.EvalViews.{matches_views}
 use Rattle.semver.specs.declared.Version.{Version}
 use Rattle.model.specs.Axioms.{at, is_full}
-use Rattle.model.specs.Candidates.{Record, as_candidate}
-use Rattle.model.specs.Content.{Candidate, candidates_of}
+use Rattle.model.specs.Candidates.{Record}
+use Rattle.model.specs.Content.{Candidate}
 use Rattle.model.specs.Summary.{Dependency}
-use Rattle.model.specs.Selection.{Class, class_of}
+use Rattle.model.specs.Selection.{Class}
 use Rattle.model.specs.Vertices.{Owner, pkg, dep, State, absent, version, in_class, has_state, owner_brings}
 use Rattle.model.specs.Vertices.{class_candidates, dep_classes, dep_space}
 use Rattle.manifest.specs.Manifests.{ManifestView}
 use Rattle.catalogue.specs.Problems.{problem_in}
-use Rattle.catalogue.specs.Stores.{CatalogueView, candidates_at, rows_by_name}
+use Rattle.catalogue.specs.Stores.{CatalogueView, candidates_at}
 use Rattle.lookups.specs.inner.Ranges.{is_of}
-use Rattle.catalogue.proofs.Lookups.{candidates_are}
 use Rattle.lookups.proofs.Classed.{all_classed}
-use Rattle.lookups.proofs.SetLaws.{all_map, all_filter}
-use Rattle.axioms.proofs.Spaces.{classes_all}
-use Rattle.axioms.specs.inner.FullTerms.{has_if_matched}
+use Rattle.lookups.proofs.SetLaws.{all_map}
 
 module _ (m : ManifestView) (c : CatalogueView) where
   pub classed : (ss : List State) (name : List ℕ) (k : Class) (vs : List Version) → map parts_of vs

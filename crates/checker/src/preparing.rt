@@ -5,7 +5,7 @@ ghost use Rattle.std.specs.List.{AllByRecursion};
 ghost use Rattle.model.specs.Axioms as model;
 ghost use Rattle.model.specs.Content.{Problem};
 ghost use Rattle.model.specs.inner.Instances.{is_instance};
-ghost use Rattle.vertices.specs.Kinds.{kind_view};
+ghost use Rattle.vertices.specs.Texts.{kind_view};
 ghost use Rattle.vertices.specs.declared.kind.Kind as kinds;
 ghost use Rattle.axioms.specs.inner.GatheredViews.{problem_of};
 ghost use Rattle.lookups.specs.inner.TermViews.{term_view, term_views};

@@ -6,7 +6,7 @@ use Rattle.std.specs.List.{list_all}
 use Rattle.std.specs.Str.Parse.{AllDigits, IsNumeral, digits_value, without_leading_plus}
 use Rattle.std.proofs.lemmas.Bool.{ltb-true, leb-true, and_parts}
 use Rattle.std.proofs.lemmas.Str.Parse.{without_leading_plus_none}
-use Rattle.classes.specs.Numbers.{is_plain_number, number_of}
+use Rattle.classes.specs.Classes.{is_plain_number, number_of}
 
 is_digit : (c : ℕ) → is_ascii_digit c ≡ true → (48 ≤ c) × (c ≤ 57)
 is_digit c e = let p = and_parts _ _ e in (leb-true _ _ p.0, leb-true _ _ p.1)

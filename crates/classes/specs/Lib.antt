@@ -2,5 +2,3 @@ pub use Rattle.model.specs.Order
 pub use Rattle.model.specs.Selection
 pub mod Classes
 pub mod Groups
-pub mod Numbers
-pub mod RustVersions

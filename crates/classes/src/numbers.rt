@@ -3,7 +3,7 @@
 ghost use Rattle.std.specs.Prelude.{◌≡◌, ◌&&◌, ◌||◌, not, ◌==◌, length, nat_le, slice_index};
 ghost use Rattle.std.specs.Char.{is_ascii_digit};
 ghost use Rattle.std.specs.List.{list_all};
-ghost use Rattle.classes.specs.Numbers.{is_plain_number, number_of};
+ghost use Rattle.classes.specs.Classes.{is_plain_number, number_of};
 
 /// The number of 64 bits that digits without a leading zero are.
 pub fn whole_number(text: &str) -> Option<u64>

@@ -1,8 +1,8 @@
 //! The Rust version that a package needs.
 
 ghost use Rattle.std.specs.Prelude.{◌≡◌, option_map};
-ghost use Rattle.features.specs.Entries.{around};
-ghost use Rattle.classes.specs.RustVersions.{patch_after, rust_version_of, rust_version_view};
+ghost use Rattle.features.specs.Names.{around};
+ghost use Rattle.classes.specs.Classes.{patch_after, rust_version_of, rust_version_view};
 
 use crate::numbers::whole_number;
 

@@ -21,7 +21,7 @@ use Rattle.words.specs.declared.fault.WordsFault.{WordsFault}
 use Rattle.commands.specs.WordsFaults.{IsToldOfWords, told_of_words}
 use Rattle.resolver.specs.Answers.{Resolves, Verifies}
 use Rattle.resolver.specs.CheckedProofs.{Checks}
-use Rattle.resolver.specs.Faults.{of_derivation}
+use Rattle.resolver.specs.Inputs.{of_derivation}
 use Rattle.resolver.specs.declared.fault.CheckFault.{CheckFault}
 use Rattle.resolver.specs.declared.fault.CheckFault.TheVariants.{Input}
 use Rattle.resolver.specs.declared.fault.Fault.{Fault}

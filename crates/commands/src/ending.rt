@@ -69,7 +69,7 @@ impl From<Fault> for Ending<'_> {
 impl From<DerivationFault> for Ending<'_> {
     ghost use Rattle.std.specs.Prelude.{◌≡◌};
     ghost use Rattle.commands.specs.Endings.{ending_view, fault};
-    ghost use Rattle.resolver.specs.Faults.{of_derivation};
+    ghost use Rattle.resolver.specs.Inputs.{of_derivation};
 
     ghost from_gives = { λ e ending. ending_view ending ≡ fault (of_derivation e) };
 

@@ -93,7 +93,8 @@ quiet_lone es t id ts within same quiet l lt sat =
     quiet l lt id within (subst (λ (us : List TermView). Sat (end_sets t l) (states_at us)) same sat)
 
 -- a satisfier that was found stands by the others
-pub placed : (es : List EntryView) (t : TrailView) (ts : List TermView) (found : Option Satisfier) → IsFound es t ts found
+pub placed : (es : List EntryView) (t : TrailView) (ts : List TermView) (found : Option Satisfier)
+    → IsFound es t ts found
     → IsPlaced found
 placed es t ts None f = tt
 placed es t ts (Some s) f = (

@@ -5,7 +5,7 @@ use Rattle.model.specs.Outcome.{Faults}
 use Rattle.derivations.specs.inner.Derivations.{IsDerivation}
 use Rattle.derivations.specs.inner.Earlier.{IsReading}
 use Rattle.derivations.specs.Files.{wants_memory, fault_at, most_steps, with_line}
-use Rattle.trees.specs.Lines.{is_blank}
+use Rattle.trees.specs.Trees.{is_blank}
 use Rattle.derivations.specs.Lines.{line_wants_memory}
 use Rattle.derivations.specs.Steps.{step_of_line}
 use Rattle.derivations.specs.inner.Tables.{TablesView, IsStepOf, IsGrown, step_at, steps_at}

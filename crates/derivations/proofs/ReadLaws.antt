@@ -8,23 +8,21 @@ use Rattle.std.specs.Ordering.{eq_by_cmp}
 use Rattle.std.proofs.lemmas.Bool.{ltb-true, and_parts}
 use Rattle.serde_json.specs.Data.{Data, Items, no_items, item}
 use Rattle.serde_json.specs.Find as json
-use Rattle.model.specs.Order.{text_cmp}
+use Rattle.model.specs.Order.{text_cmp, in_order, has_alike}
 use Rattle.model.specs.Outcome.{guard}
 use Rattle.model.specs.Vertices.{Vertex, State}
 use Rattle.model.specs.Axioms.{Term}
 use Rattle.model.specs.Derivation.{Step}
-use Rattle.vertices.specs.Texts.{IsReadVertex, IsReadState}
+use Rattle.vertices.specs.Texts.{IsReadVertex, IsReadState, kind_of_text, Reading, vertex_text, vertex_of_text}
+use Rattle.vertices.specs.Texts.{state_of_text}
 use Rattle.derivations.specs.inner.Derivations.{IsTerm, term_cmp, AreTerms, IsStepAt, AreStepsFrom, IsDerivation}
-use Rattle.vertices.specs.Kinds.{kind_of_text}
 use Rattle.derivations.specs.Orders.{ordered}
-use Rattle.model.specs.Sorting.{in_order, has_alike}
 use Rattle.vertices.specs.Orders.{state_cmp}
 use Rattle.derivations.specs.Steps.{data_of_bytes, text_of, whole_of, item_at, none_at, two_of, states_in, states_of}
 use Rattle.derivations.specs.Steps.{Written, written_cmp, term_of, terms_in, terms_without_texts, terms_of, Origin}
 use Rattle.derivations.specs.Steps.{by_axiom, by_combination, axiom_of, combination_of, origin_from, origin_of}
 use Rattle.derivations.specs.Steps.{is_backward, step_by, step_of, step_of_line}
 use Rattle.derivations.specs.Lines.{needed, in_line, vertex_in_line, state_in_line}
-use Rattle.vertices.specs.Texts.{Reading, vertex_text, vertex_of_text, state_of_text}
 use Rattle.derivations.specs.declared.fault.LineFault.TheVariants.{NotALine, Forward}
 use Rattle.vertices.proofs.Bound.{steps, same-Ok, passed}
 use Rattle.vertices.proofs.OrderLaws.{state_total}

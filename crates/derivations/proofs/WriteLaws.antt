@@ -22,17 +22,15 @@ use Rattle.model.specs.Vertices.{Vertex, State}
 use Rattle.model.specs.Axioms.{Kind, Root, Needed, Target, HasFeature, WantsFeature, FeatureOnFeature}
 use Rattle.model.specs.Axioms.{FeatureOnDependency, FeatureAsks, NewestListed, WeakFeature, Term}
 use Rattle.model.specs.Derivation.{Step, given, combine, terms_of as terms_in_step}
-use Rattle.vertices.specs.Texts.{IsReadVertex, IsReadState}
+use Rattle.vertices.specs.Texts.{IsReadVertex, IsReadState, kind_text, kind_of_text, vertex_text, state_text}
 use Rattle.derivations.specs.inner.Derivations.{IsTerm, term_cmp, AreTerms, IsStepAt, AreStepsFrom, IsDerivation}
 use Rattle.derivations.specs.Files.{most_steps, with_read, with_line, with_lines, derivation_of_bytes}
-use Rattle.trees.specs.Lines.{is_line_end}
-use Rattle.vertices.specs.Kinds.{kind_text, kind_of_text}
+use Rattle.trees.specs.Trees.{is_line_end}
 use Rattle.derivations.specs.Orders.{ordered}
 use Rattle.derivations.specs.Steps.{two_of, states_in, states_of, Written, written_cmp, term_of, terms_in}
 use Rattle.derivations.specs.Steps.{terms_without_texts, terms_of, Origin, by_axiom, by_combination, axiom_of}
 use Rattle.derivations.specs.Steps.{combination_of, origin_of, is_backward, step_by, step_of, step_of_line}
 use Rattle.derivations.specs.Lines.{Line}
-use Rattle.vertices.specs.Texts.{vertex_text, state_text}
 use Rattle.derivations.specs.Written.{quoted, with_commas, state_json, term_json, combination_json, origin_json}
 use Rattle.derivations.specs.Written.{step_json, lines_of}
 use Rattle.derivations.specs.declared.fault.LineFault.TheVariants.{Forward}

@@ -3,7 +3,7 @@ use Rattle.std.specs.Prelude.{ℕ, ◌+◌, nat_lt, Bool, true, false, if◌then
 use Rattle.std.specs.Prelude.{Result, Ok, Err}
 use Rattle.std.specs.List.{slice_split}
 use Rattle.model.specs.Outcome.{◌>>=◌}
-use Rattle.trees.specs.Lines.{is_blank, is_line_end}
+use Rattle.trees.specs.Trees.{is_blank, is_line_end}
 use Rattle.model.specs.Derivation.{Step}
 use Rattle.derivations.specs.Steps.{step_of_line}
 use Rattle.derivations.specs.Lines.{Line}

@@ -2,7 +2,7 @@
 use Rattle.std.specs.Prelude.{if◌then◌else◌, List, Ok, Err}
 use Rattle.std.specs.Ordering.{eq_by_cmp}
 use Rattle.std.specs.declared.cmp.Ordering.{Ordering}
-use Rattle.model.specs.Sorting.{has_alike, in_order}
+use Rattle.model.specs.Order.{has_alike, in_order}
 use Rattle.derivations.specs.Lines.{Line}
 use Rattle.derivations.specs.declared.fault.LineFault.TheVariants.{NotALine}
 

@@ -11,7 +11,7 @@ use Rattle.model.specs.Vertices.{Vertex, State}
 use Rattle.model.specs.Axioms.{Kind, Term, at}
 use Rattle.model.specs.Derivation.{Step, given, combine}
 use Rattle.trees.specs.Trees as trees
-use Rattle.vertices.specs.Kinds.{kind_of_text}
+use Rattle.vertices.specs.Texts.{kind_of_text}
 use Rattle.vertices.specs.Orders.{state_cmp}
 use Rattle.derivations.specs.Orders.{ordered}
 use Rattle.derivations.specs.Lines.{Line, needed, vertex_in_line, state_in_line}

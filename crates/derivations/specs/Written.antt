@@ -5,8 +5,7 @@ use Rattle.std.specs.List.{flat_map, join_with_byte}
 use Rattle.model.specs.Vertices.{Vertex, State}
 use Rattle.model.specs.Axioms.{Term}
 use Rattle.model.specs.Derivation.{Step, given, combine, terms_of}
-use Rattle.vertices.specs.Kinds.{kind_text}
-use Rattle.vertices.specs.Texts.{vertex_text, state_text}
+use Rattle.vertices.specs.Texts.{kind_text, vertex_text, state_text}
 
 -- in quotes: the texts of kinds, vertices and states have no byte that JSON would escape
 abbrev pub quoted : List ℕ → List ℕ

@@ -2,9 +2,8 @@
 
 ghost use Rattle.std.specs.Prelude.{◌≡◌, ◌<◌, ◌++◌, ◌∷◌, [], IfOk, OnErr, OnOk, length};
 ghost use Rattle.model.specs.Derivation.{given, combine};
-ghost use Rattle.vertices.specs.Kinds.{kind_view};
+ghost use Rattle.vertices.specs.Texts.{kind_view, IsReadVertex};
 ghost use Rattle.vertices.specs.inner.RefViews.{vertex_ref_view};
-ghost use Rattle.vertices.specs.Texts.{IsReadVertex};
 ghost use Rattle.derivations.specs.inner.Building.{AreNewTerms, ordered_terms};
 ghost use Rattle.derivations.specs.inner.Derivations.{IsDerivation, IsStepAt};
 ghost use Rattle.derivations.specs.inner.Earlier.{IsReading};

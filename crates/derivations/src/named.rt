@@ -6,7 +6,7 @@ ghost use Rattle.std.specs.Ordering.{eq_by_cmp};
 ghost use Rattle.vertices.specs.Orders.{state_cmp};
 ghost use Rattle.vertices.specs.inner.RefViews.{state_ref_views};
 ghost use Rattle.derivations.specs.inner.Building.{IsNewTerm, AreNewTerms, ordered_term, ordered_terms};
-ghost use Rattle.model.specs.Sorting.{in_order};
+ghost use Rattle.model.specs.Order.{in_order};
 ghost use Rattle.derivations.specs.inner.Named.{named_view, named_views, set_in_order_view, set_in_order_views};
 ghost use Rattle.derivations.specs.inner.Named.{states_in_order};
 

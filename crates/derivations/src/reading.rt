@@ -5,7 +5,7 @@ ghost use Rattle.std.specs.List.{slice_split};
 ghost use Rattle.model.specs.Outcome.{Gives};
 ghost use Rattle.derivations.specs.inner.Earlier.{IsReading};
 ghost use Rattle.derivations.specs.Files.{wants_memory, fault_at, with_line, with_lines, derivation_of_bytes};
-ghost use Rattle.trees.specs.Lines.{is_line_end};
+ghost use Rattle.trees.specs.Trees.{is_line_end};
 ghost use Rattle.derivations.specs.inner.Tables.{steps_at};
 
 use crate::derivation::Derivation;

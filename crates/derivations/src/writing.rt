@@ -3,8 +3,7 @@
 ghost use Rattle.std.specs.Prelude.{◌≡◌, ◌<◌, ◌≤◌, ◌++◌, List, Ok, length, IfOk, OnOk, codes, decimal, map};
 ghost use Rattle.std.specs.Prelude.{string_bytes};
 ghost use Rattle.model.specs.Axioms as axioms;
-ghost use Rattle.vertices.specs.Texts.{vertex_text};
-ghost use Rattle.vertices.specs.Kinds.{kind_text, kind_view};
+ghost use Rattle.vertices.specs.Texts.{vertex_text, kind_text, kind_view};
 ghost use Rattle.derivations.specs.Files.{derivation_of_bytes, most_steps};
 ghost use Rattle.derivations.specs.inner.Tables.{AreStatesOf, AreStepsOf, AreTermsOf, IsOriginOf, IsStepOf, IsTermOf};
 ghost use Rattle.derivations.specs.inner.Tables.{state_at, states_at, step_at, step_by_origin, steps_at, term_at};

@@ -7,7 +7,7 @@ use Rattle.model.specs.Summary.{Summary, Dependency, Entry, Table, feature, depe
 use Rattle.model.specs.Summary.{weak_feature, asked_of_target, entries_at, has_feature, same_text}
 use Rattle.model.specs.Content.{Problem, Candidate, candidates_of, candidate_at, brings_of, same_version}
 use Rattle.model.specs.Selection.{Class, class_of}
-use Rattle.model.specs.WellFormed.{IsCatalogue}
+use Rattle.model.specs.Order.{IsCatalogue}
 use Rattle.model.specs.Vertices.{Owner, the_root, version_of, Vertex, root, pkg, dep, feat, ask, version}
 use Rattle.model.specs.Vertices.{in_that_class, owner_brings, class_candidates}
 use Rattle.model.specs.Axioms.{IsOwner, HasDep, HasEntry, RootAsks, HasFeatVertex, IsVertex}
@@ -162,7 +162,8 @@ module _ (q : Problem) where
 
   -- what is asked of dependencies that are called x
   called_are : (o : Owner) (x g : List ℕ) (v : Vertex)
-      → ((i : ℕ) (d : Dependency) → HasDep q o i d → d.name ≡ x → Contains (feature_of q d.real_name g) v → IsVertex q v)
+      → ((i : ℕ) (d : Dependency) → HasDep q o i d → d.name ≡ x
+        → Contains (feature_of q d.real_name g) v → IsVertex q v)
       → Contains (asked_of q (owner_brings q o).dependencies x g) v → IsVertex q v
   called_are o x g v is h =
       let ds = (owner_brings q o).dependencies in

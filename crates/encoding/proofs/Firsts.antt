@@ -3,8 +3,7 @@ use Rattle.std.proofs.Common.{◌≡◌, ℕ, List, [], ◌∷◌, map, true, no
 use Rattle.std.proofs.Common.{subst}
 use Rattle.semver.specs.Parse.{Parts}
 use Rattle.model.specs.Summary.{Dependency, Entry, dependency_feature, feature, same_text}
-use Rattle.model.specs.Content.{Candidate, Problem, candidates_of}
-use Rattle.model.specs.Optional.{passes}
+use Rattle.model.specs.Content.{Candidate, Problem, candidates_of, passes}
 use Rattle.model.specs.Selection.{Class, class_of}
 use Rattle.model.specs.Vertices.{Owner, the_root, version_of, Vertex, dep, feat, ask, absent, present, version}
 use Rattle.model.specs.Vertices.{in_class, in_that_class, dep_classes, dep_space, class_candidates, space}

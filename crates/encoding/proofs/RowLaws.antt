@@ -4,7 +4,7 @@ use Rattle.std.proofs.Common.{subst}
 use Rattle.std.proofs.lemmas.List.{length-map}
 use Rattle.std.proofs.lemmas.Option.{same_Some, slice_get_read}
 use Rattle.model.specs.Content.{Problem}
-use Rattle.model.specs.WellFormed.{IsCatalogue}
+use Rattle.model.specs.Order.{IsCatalogue}
 use Rattle.model.specs.Vertices.{Vertex, space}
 use Rattle.model.proofs.Places.{map_at}
 use Rattle.numbering.specs.Numberings.{Numbering}
@@ -60,5 +60,6 @@ space_at q rows e n r view is lt at v seen = subst (λ (e : EncodingView). n < l
     here lt v seen =
         let less : n < length rows = subst (λ k. n < k) (length-map rows (λ (r : Row). vertex_view r.vertex)) lt in
         let there = slice_get_read rows (length rows) n r refl less at in
-        let same : vertex_view r.vertex ≡ v = same_Some (vertex_view r.vertex) v (sym (vertex_of q rows n r there) ∙ seen)
+        let same : vertex_view r.vertex ≡ v =
+            same_Some (vertex_view r.vertex) v (sym (vertex_of q rows n r there) ∙ seen)
         in space_of q rows n r is there ∙ ap (λ w. length (space q w)) same

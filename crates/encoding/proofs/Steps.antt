@@ -14,8 +14,7 @@ use Rattle.model.specs.Summary.{weak_feature}
 use Rattle.model.specs.Vertices.{Vertex}
 use Rattle.manifest.specs.Manifests.{ManifestView, asked_by, root_asks}
 use Rattle.catalogue.specs.Problems.{problem_in}
-use Rattle.catalogue.specs.Ranks.{records}
-use Rattle.catalogue.specs.Stores.{CatalogueView, Row, candidates_at}
+use Rattle.catalogue.specs.Stores.{records, CatalogueView, Row, candidates_at}
 use Rattle.model.specs.Causes.{entries_or_none}
 use Rattle.catalogue.proofs.Lookups.{candidates_are}
 use Rattle.encoding.specs.inner.Everything.{asked_for, asked_of, versions, versions_of}

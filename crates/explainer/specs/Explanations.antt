@@ -5,8 +5,7 @@ use Rattle.std.specs.List.{flat_map, list_any}
 use Rattle.model.specs.Axioms.{Kind, Root, Needed, Target, HasFeature, WantsFeature, FeatureOnFeature}
 use Rattle.model.specs.Axioms.{FeatureOnDependency, FeatureAsks, NewestListed, WeakFeature, Term}
 use Rattle.model.specs.Derivation.{Step, given, combine, terms_of}
-use Rattle.vertices.specs.Kinds.{kind_text}
-use Rattle.vertices.specs.Texts.{vertex_text, state_text}
+use Rattle.vertices.specs.Texts.{kind_text, vertex_text, state_text}
 
 -- ---- which steps are needed
 

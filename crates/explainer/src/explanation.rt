@@ -4,7 +4,7 @@ ghost use Rattle.std.specs.Prelude.{◌≡◌, ◌++◌, IfOk, List, OnOk, codes
 ghost use Rattle.std.specs.List.{flat_map};
 ghost use Rattle.std.specs.List.Sorted.{IsNonDecreasing};
 ghost use Rattle.model.specs.Axioms as axioms;
-ghost use Rattle.vertices.specs.Kinds.{kind_view};
+ghost use Rattle.vertices.specs.Texts.{kind_view};
 ghost use Rattle.derivations.specs.inner.Tables.{AreStepsOf, AreTermsOf, IsStepOf, IsTermOf, TablesView, step_at};
 ghost use Rattle.derivations.specs.inner.Tables.{step_by_origin, steps_at, term_at, terms_at};
 ghost use Rattle.explainer.specs.Explanations.{text_if, with_between, term_words, claim, kind_name, new_number};

@@ -10,9 +10,9 @@ use Rattle.facts.specs.inner.Chains.{has, IsGiven}
 use Rattle.facts.specs.inner.Chains.IsGiven.{begins, follows}
 use Rattle.model.specs.Summary.{Summary, Dependency, Entry, feature, dependency, dependency_feature, weak_feature}
 use Rattle.model.specs.Summary.{same_text, entries_at, asked_of_target}
-use Rattle.model.specs.Facts.{Fact, here, on, enabled, Brings, Lists}
-use Rattle.model.specs.Facts.Holds.{starts, arrives, root_needs, needs, asks, root_wants, turns_on, enables}
-use Rattle.model.specs.Facts.Holds.{enables_for, wants, wants_weakly}
+use Rattle.model.specs.Selection.{Fact, here, on, enabled, Brings, Lists}
+use Rattle.model.specs.Selection.Holds.{starts, arrives, root_needs, needs, asks, root_wants, turns_on, enables}
+use Rattle.model.specs.Selection.Holds.{enables_for, wants, wants_weakly}
 use Rattle.model.proofs.Same.{text-refl}
 use Rattle.model.proofs.Lists.{in_none, in_first, in_rest, to_filter, all_get}
 use Rattle.model.proofs.Flat.{to_flat, in_flat}

@@ -6,15 +6,15 @@ use Rattle.std.specs.Option.{option_and_then}
 use Rattle.std.proofs.lemmas.Option.{slice_get_within, same_Some, none-some}
 use Rattle.semver.specs.Parse.{Parts}
 use Rattle.model.specs.Summary.{Dependency, Entry, entries_at}
-use Rattle.model.specs.Facts.{Fact, Holds, here, on, enabled, Brings, Lists}
-use Rattle.model.specs.Facts.Holds.{starts, arrives, root_needs, needs, asks, root_wants, turns_on, enables}
-use Rattle.model.specs.Facts.Holds.{enables_for, wants, wants_weakly}
+use Rattle.model.specs.Selection.{Fact, Holds, here, on, enabled, Brings, Lists, Class, IsFact, IsPlace, IsRootAt}
+use Rattle.model.specs.Selection.{IsTarget, HasTarget, IsValidSelection, class_of}
+use Rattle.model.specs.Selection.Holds.{starts, arrives, root_needs, needs, asks, root_wants, turns_on, enables}
+use Rattle.model.specs.Selection.Holds.{enables_for, wants, wants_weakly}
 use Rattle.model.specs.Content.{Candidate, Package, Content, Problem, is_root, candidates_of, candidate_at}
 use Rattle.model.specs.Content.{candidate_of, if_checksum, same_option, summary_at, target_of}
-use Rattle.model.specs.Selection.{Class, IsFact, IsPlace, IsRootAt, IsTarget, HasTarget, IsValidSelection, class_of}
 use Rattle.model.specs.Vertices.{Owner, the_root, version_of, Vertex, pkg, dep, State, absent, version, in_class}
 use Rattle.model.specs.Vertices.{owner_brings, same_owner}
-use Rattle.model.specs.Stands.{IsLink, IsReachedFact, StandsFor, name_of}
+use Rattle.model.specs.Walk.{IsLink, IsReachedFact, StandsFor, name_of}
 use Rattle.model.specs.inner.Assignment.{Assigns, IsOwnerAt, Locks}
 use Rattle.model.specs.inner.Search.{IsUnbroken, LeadsTo}
 use Rattle.model.proofs.Same.{owner-refl, owner-same, text-same}

@@ -7,10 +7,10 @@ use Rattle.std.specs.Option.{option_and_then}
 use Rattle.std.proofs.lemmas.Bool.{cases_order, eqb-true}
 use Rattle.std.proofs.lemmas.Option.{slice_get_within, slice_get-get_or, same_Some, none-some}
 use Rattle.model.specs.Summary.{Summary, Dependency}
-use Rattle.model.specs.Facts.{Fact, here, enabled, Brings}
+use Rattle.model.specs.Selection.{Fact, here, enabled, Brings}
 use Rattle.model.specs.Content.{Package, Content, Problem, is_root, candidates_of, candidate_at}
 use Rattle.model.specs.Vertices.{Owner, the_root, version_of, owner_brings}
-use Rattle.model.specs.Stands.{IsLink, IsReachedFact, StandsFor, name_of}
+use Rattle.model.specs.Walk.{IsLink, IsReachedFact, StandsFor, name_of}
 use Rattle.model.proofs.Lists.{in_first, in_rest, all_none, all_cons, pairs_get}
 use Rattle.model.proofs.Same.{text-refl, version-refl}
 use Rattle.manifest.specs.Manifests.{root_asks}

@@ -1,9 +1,9 @@
 -- The facts of packages hold of the packages that stand for them.
 use Rattle.std.proofs.Common.{◌≡◌, ℕ, List, Some, slice_get, Contains, subst}
 use Rattle.model.specs.Summary.{Summary, Dependency, Entry, entries_at}
-use Rattle.model.specs.Facts.{Fact, Holds, here, on, enabled, Brings, Lists}
-use Rattle.model.specs.Facts.Holds.{starts, arrives, root_needs, needs, asks, root_wants, turns_on, enables}
-use Rattle.model.specs.Facts.Holds.{enables_for, wants, wants_weakly}
+use Rattle.model.specs.Selection.{Fact, Holds, here, on, enabled, Brings, Lists}
+use Rattle.model.specs.Selection.Holds.{starts, arrives, root_needs, needs, asks, root_wants, turns_on, enables}
+use Rattle.model.specs.Selection.Holds.{enables_for, wants, wants_weakly}
 
 -- R n m: the package m of the others stands for n. What R has to keep for the facts of the ones to hold of the others.
 module _ {N M : Type 0} (owner : N → Summary) (IsRoot Starts : N → Type 0) (root_asks : List (List ℕ × List ℕ))

@@ -10,9 +10,10 @@ use Rattle.facts.specs.inner.Chains.{has, IsGiven}
 use Rattle.facts.specs.inner.Chains.IsGiven.{begins, follows}
 use Rattle.model.specs.Summary.{Summary, Dependency, Entry, feature, dependency, dependency_feature, weak_feature}
 use Rattle.model.specs.Summary.{Table, same_text, has_feature, entries_at, asked_of_target}
-use Rattle.model.specs.Facts.{Fact, here, on, enabled, Brings, Lists}
-use Rattle.model.specs.Facts.Holds.{arrives, root_needs, needs, asks, root_wants, turns_on, enables, enables_for, wants}
-use Rattle.model.specs.Facts.Holds.{wants_weakly}
+use Rattle.model.specs.Selection.{Fact, here, on, enabled, Brings, Lists}
+use Rattle.model.specs.Selection.Holds.{arrives, root_needs, needs, asks, root_wants, turns_on, enables, enables_for}
+use Rattle.model.specs.Selection.Holds.{wants}
+use Rattle.model.specs.Selection.Holds.{wants_weakly}
 use Rattle.model.proofs.Same.{text-same}
 use Rattle.model.proofs.Lists.{in_none, in_cons, in_first, in_filter}
 use Rattle.model.proofs.Flat.{to_flat, in_flat}

@@ -9,8 +9,8 @@ use Rattle.std.proofs.lemmas.Result.{IfOk-weaker}
 use Rattle.facts.specs.declared.rule.Rule.{Rule}
 use Rattle.facts.specs.inner.Chains.{has, IsGiven, AreBelow}
 use Rattle.model.specs.Summary.{Summary, Dependency, Table, has_feature}
-use Rattle.model.specs.Facts.{Fact, here, on, enabled}
-use Rattle.model.specs.Facts.Holds.{starts}
+use Rattle.model.specs.Selection.{Fact, here, on, enabled}
+use Rattle.model.specs.Selection.Holds.{starts}
 use Rattle.facts.specs.inner.Graphs.{NodeView, brings_if, starts_if, starts_at, IsFactOf, LacksFeature, IsGraph}
 use Rattle.facts.specs.inner.Graphs.{flag_at}
 use Rattle.facts.specs.inner.Graphs.{flag_in}

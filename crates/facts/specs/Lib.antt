@@ -1,3 +1,3 @@
-pub use Rattle.model.specs.Facts
+pub use Rattle.model.specs.Selection
 pub use Rattle.model.specs.inner.Search
 pub mod inner

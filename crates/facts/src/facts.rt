@@ -1,7 +1,7 @@
 //! The facts of packages.
 
 ghost use Rattle.std.specs.Prelude.{◌≡◌, ◌↔◌, ℕ, true, length, map, IfOk};
-ghost use Rattle.model.specs.Facts.{here, enabled};
+ghost use Rattle.model.specs.Selection.{here, enabled};
 ghost use Rattle.facts.specs.inner.Chains.{has, AreBelow};
 ghost use Rattle.facts.specs.inner.Answers.{AreGivenBy};
 ghost use Rattle.facts.specs.inner.Graphs.{node_views, flag_at, flag_in, IsFactOf, LacksFeature, IsGraph};

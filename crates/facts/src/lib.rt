@@ -15,7 +15,7 @@
 //! what the root reaches in an assignment of the search, and the content built of it a valid selection.
 //!
 //! A layer above may rely on this: the flags of `facts_of` are exactly what the rules of the model
-//! (`model/specs/Facts`) give.
+//! (`model/specs/Selection`) give.
 #![tactic(auto)]
 
 mod closing;

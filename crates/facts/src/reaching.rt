@@ -15,7 +15,7 @@ ghost use Rattle.model.specs.inner.ContentOf.{AreKept, Kept};
 ghost use Rattle.model.specs.inner.Search.{IsUnbroken, LeadsTo};
 ghost use Rattle.model.specs.Selection.{IsValidSelection};
 ghost use Rattle.model.specs.Vertices.{Owner, State, Vertex};
-ghost use Rattle.model.specs.WellFormed.{IsCatalogue};
+ghost use Rattle.model.specs.Order.{IsCatalogue};
 ghost use Rattle.manifest.specs.Manifests.{root_asks};
 ghost use Rattle.facts.specs.inner.Graphs.{IsGraph, NodeView};
 ghost use Rattle.facts.specs.inner.Built.{AreFound, IsBuilt};

@@ -12,7 +12,7 @@ use Rattle.std.proofs.lemmas.List.{drop_more}
 use Rattle.std.proofs.lemmas.List.Folds.{list_any-append}
 use Rattle.std.proofs.lemmas.Map.Lookups.{exact_bytes}
 use Rattle.std.specs.declared.alloc.Global.{Global}
-use Rattle.model.specs.Summary.{Table, entries_at, has_feature, same_text}
+use Rattle.model.specs.Summary.{Table, same_text}
 use Rattle.model.specs.Summary as model
 use Rattle.model.specs.Tables.{DepName, TableFault, first_with, has_dep_entry, has_dependency, has_fault, is_dep}
 use Rattle.model.specs.Tables.{is_optional, no_such_feature, no_such_dependency, not_optional}

@@ -6,7 +6,7 @@ use Rattle.std.specs.List.{list_any, position_or_len, before_first, after_first}
 use Rattle.std.specs.Borrow.{Bor}
 use Rattle.std.specs.Str.Pattern.{FindsTextSuffix, StripsSuffix}
 use Rattle.std.proofs.lemmas.Str.Pattern.{ends_text}
-use Rattle.features.specs.Entries.{around, before_text}
+use Rattle.features.specs.Names.{around, before_text}
 
 -- some element passes just where the first place that does is within the list
 pub list_any-within : (p : ℕ → Bool) (s : List ℕ) → position_or_len p s < length s → list_any p s ≡ true

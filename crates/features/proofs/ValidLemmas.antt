@@ -10,9 +10,8 @@ use Rattle.model.specs.Tables.{table_of}
 use Rattle.model.proofs.Lists.{all_none, all_cons, all_first, all_rest}
 use Rattle.model.proofs.Same.{both}
 use Rattle.model.proofs.Tables.{built}
-use Rattle.features.specs.Names.{is_package_name, is_feature_name}
-use Rattle.features.specs.Entries.{after_text, before_text, around, feature_of, dependency_of, asked_of, weak_or}
-use Rattle.features.specs.Entries.{asking_or, dependency_or, entry_of}
+use Rattle.features.specs.Names.{is_package_name, is_feature_name, after_text, before_text, around, feature_of}
+use Rattle.features.specs.Names.{dependency_of, asked_of, weak_or, asking_or, dependency_or, entry_of}
 use Rattle.features.specs.inner.Valid.{IsPackageName, IsFeatureName, IsValidEntry, IsValidRow}
 use Rattle.features.proofs.NameLemmas.{feature_name-package}
 

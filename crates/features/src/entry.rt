@@ -3,7 +3,7 @@
 ghost use Rattle.std.specs.Prelude.{◌≡◌, codes, option_copied, option_map};
 ghost use Rattle.std.specs.Option.{ok_or};
 ghost use Rattle.model.specs.Outcome.{Gives};
-ghost use Rattle.features.specs.Entries.{after_text, around, asking_of, before_text, entry_of};
+ghost use Rattle.features.specs.Names.{after_text, around, asking_of, before_text, entry_of};
 ghost use Rattle.features.specs.EntryViews.{entry_view};
 ghost use Rattle.features.specs.Views.{wants_memory};
 

@@ -1,7 +1,7 @@
 //! `NAME@VERSION`.
 
 ghost use Rattle.std.specs.Prelude.{◌≡◌, option_map};
-ghost use Rattle.features.specs.Entries.{around};
+ghost use Rattle.features.specs.Names.{around};
 
 /// What stands before and after the first `@` of a text.
 pub fn name_and_version(text: &str) -> Option<(&str, &str)>

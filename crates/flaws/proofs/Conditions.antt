@@ -4,9 +4,8 @@ use Rattle.std.proofs.Common.{Some, None, slice_get, Contains, MatchOption, is_s
 use Rattle.std.proofs.Common.{inr, arith, true≢false}
 use Rattle.std.proofs.lemmas.Bool.{and_from, eqb-true, not-true, not_from_false}
 use Rattle.std.proofs.lemmas.Option.{none-some, same_Some}
-use Rattle.model.specs.Summary.{Dependency}
-use Rattle.model.specs.Content.{Package, Content, Problem, is_root, candidate_of, last_serving, list_if, target_of}
-use Rattle.model.specs.Selection.{IsOther, IsEnabled, HasTarget, IsTarget}
+use Rattle.model.specs.Content.{Package, Content, Problem, is_root, candidate_of, list_if, target_of}
+use Rattle.model.specs.Selection.{HasTarget, IsTarget}
 use Rattle.model.specs.Verdict.{VerdictFault, not_candidate, two_in_class, unmet, no_feature, wrong_list, unreached}
 use Rattle.model.specs.Verdict.{IsFreeOf, IsFaultless}
 use Rattle.model.proofs.Lists.{in_none, in_first}
@@ -18,7 +17,7 @@ use Rattle.catalogue.specs.Problems.{problem_in}
 use Rattle.catalogue.specs.Stores.{CatalogueView}
 use Rattle.selection.proofs.Judging.{featured_is}
 use Rattle.flaws.specs.inner.Reasons.{why_none}
-use Rattle.flaws.specs.inner.Flaws.{is_flawless, why_at, IsUnmet, IsSurplus, IsTwin, AreFlaws}
+use Rattle.flaws.specs.inner.Flaws.{is_flawless, IsTwin, AreFlaws}
 use Rattle.flaws.specs.declared.flawed.Flawed.{Flawed}
 use Rattle.flaws.specs.declared.no_candidate.NoCandidate.{NoCandidate}
 use Rattle.flaws.proofs.Reasons.{why_decides}

@@ -1,14 +1,13 @@
 -- What is told of one package is what is wrong with it, by what is found of the lock.
 use Rattle.std.proofs.Common.{◌≡◌, ◌↔◌, ◌<◌, ℕ, Bool, true, false, not, ◌&&◌, cond, nat_eq, List, [], length, get_or}
 use Rattle.std.proofs.Common.{map, Option, Some, None, unwrap_or, slice_get, Contains, MatchOption, ◌⊎◌, refl, sym, ap}
-use Rattle.std.proofs.Common.{◌∙◌, subst, true≢false, arith}
+use Rattle.std.proofs.Common.{◌∙◌, subst, true≢false}
 use Rattle.std.specs.List.{filter, range_with_len}
 use Rattle.std.proofs.lemmas.Bool.{eqb-true, eq-eqb}
 use Rattle.std.proofs.lemmas.List.{length-map}
 use Rattle.std.proofs.lemmas.Option.{same_Some}
-use Rattle.model.specs.Facts.{enabled}
+use Rattle.model.specs.Selection.{enabled, IsFact, IsTarget}
 use Rattle.model.specs.Content.{Package, Content, Problem, is_root, summary_of}
-use Rattle.model.specs.Selection.{IsFact, IsTarget}
 use Rattle.model.specs.Verdict.{IsFreeOf, two_in_class}
 use Rattle.manifest.specs.Manifests.{ManifestView}
 use Rattle.catalogue.specs.Problems.{problem_in}

@@ -1,12 +1,11 @@
 -- What is wrong with the list of one package, by the flags and targets of its dependencies.
 use Rattle.std.proofs.Common.{◌≡◌, ◌↔◌, ◌⊎◌, ℕ, Bool, true, false, not, ◌&&◌, List, length, Option, Some, None}
-use Rattle.std.proofs.Common.{option_map, slice_get, Contains, is_some, refl, sym, ap, ◌∙◌, inl, inr, subst, true≢false}
+use Rattle.std.proofs.Common.{slice_get, Contains, refl, sym, ap, ◌∙◌, inl, inr, subst, true≢false}
 use Rattle.std.specs.List.{filter, range_with_len}
 use Rattle.std.proofs.lemmas.Bool.{and_from, not-true, not_from_false}
 use Rattle.std.proofs.lemmas.Option.{slice_get_within}
-use Rattle.model.specs.Facts.{enabled}
-use Rattle.model.specs.Content.{Package, Content, Problem, summary_of, last_serving, list_if}
-use Rattle.model.specs.Selection.{IsFact, IsTarget}
+use Rattle.model.specs.Selection.{enabled, IsFact, IsTarget}
+use Rattle.model.specs.Content.{Package, Content, Problem, summary_of, list_if}
 use Rattle.model.proofs.Lists.{in_filter, to_filter}
 use Rattle.model.proofs.Same.{both}
 use Rattle.facts.specs.inner.Graphs.{flag_at}

@@ -5,8 +5,7 @@ use Rattle.std.specs.declared.cmp.Ordering.TheVariants.{Less}
 use Rattle.std.proofs.lemmas.List.{length-map}
 use Rattle.std.proofs.lemmas.List.Elements.{All-map}
 use Rattle.model.specs.Content.{Content}
-use Rattle.model.specs.Order.{package_cmp}
-use Rattle.model.specs.WellFormed.{IsContent}
+use Rattle.model.specs.Order.{package_cmp, IsContent}
 use Rattle.model.proofs.Mapped.{pairs_map}
 use Rattle.flaws.specs.inner.Unsummed.{without_checksum}
 

@@ -1,10 +1,10 @@
 -- The package before that has the name and class of one, where neither is the root.
-use Rattle.std.proofs.Common.{◌≡◌, ◌<◌, ◌≤◌, ℕ, true, Some, slice_get, ◌∙◌, sym}
+use Rattle.std.proofs.Common.{◌≡◌, ◌<◌, ◌≤◌, ℕ, true, Some, slice_get, ◌∙◌}
 use Rattle.model.specs.Summary.{same_text}
 use Rattle.model.specs.Content.{Package, Content, Problem}
 use Rattle.model.specs.Selection.{class_of}
 use Rattle.model.specs.Vertices.{same_class}
-use Rattle.model.specs.WellFormed.{IsContent}
+use Rattle.model.specs.Order.{IsContent}
 use Rattle.model.proofs.Same.{both, text-same, class-same}
 use Rattle.selection.specs.inner.Graphs.{IsOnlyRoot}
 use Rattle.selection.specs.inner.Names.{is_like}

@@ -4,7 +4,7 @@ ghost use Rattle.std.specs.Prelude.{◌≡◌, ◌↔◌, ◌<◌, ◌++◌, ◌
 ghost use Rattle.model.specs.Content.{Problem};
 ghost use Rattle.model.specs.Selection.{IsValidSelection};
 ghost use Rattle.model.specs.Verdict.{IsFreeOf, two_in_class};
-ghost use Rattle.model.specs.WellFormed.{IsContent};
+ghost use Rattle.model.specs.Order.{IsContent};
 ghost use Rattle.lockfile.specs.inner.Views.{package_views};
 ghost use Rattle.manifest.specs.Manifests.{ManifestView};
 ghost use Rattle.catalogue.specs.Problems.{problem_in};

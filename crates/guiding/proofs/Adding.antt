@@ -32,10 +32,11 @@ use Rattle.guiding.specs.inner.Turning.{IsAdding}
 use Rattle.guiding.specs.inner.Following as following
 use Rattle.guiding.proofs.Guides.{lone_one, spaces_wider}
 use Rattle.guiding.proofs.Seen.{seen_wider}
-use Rattle.guiding.specs.inner.Guides.{AreAll, AreFirst, AreStored, CanAsk, EncodedView, GoesOn, IsAskedFor, IsAsking, IsOfInstance}
+use Rattle.guiding.specs.inner.Guides.{AreAll, AreFirst, AreStored, CanAsk, EncodedView, GoesOn, IsAskedFor, IsAsking}
+use Rattle.guiding.specs.inner.Guides.{IsOfInstance}
 use Rattle.guiding.specs.inner.Guides.{IsPut, as_entry}
 use Rattle.guiding.specs.inner.Guides.{asked_at, asked_of, on_trail, late_with, left_with, with_given}
-use Rattle.vertices.specs.Kinds.{kind_number}
+use Rattle.vertices.specs.Texts.{kind_number}
 use Rattle.guiding.specs.inner.Remaining.{open_of, spaces_of}
 use Rattle.guiding.proofs.FirstTerms.{named_only}
 use Rattle.guiding.specs.inner.Going.{added_grown, added_on, says_on}

@@ -11,7 +11,7 @@ use Rattle.propagation.specs.Trails.{TrailView, set_of}
 use Rattle.propagation.specs.Promises.{IsTrail}
 use Rattle.model.specs.Content.{Content}
 use Rattle.model.specs.Vertices.{Vertex, space}
-use Rattle.model.specs.WellFormed.{IsCatalogue}
+use Rattle.model.specs.Order.{IsCatalogue}
 use Rattle.numbering.specs.inner.Assignments.{state_at}
 use Rattle.numbering.specs.inner.KnownProblem.{KnowsDefault, problem}
 use Rattle.numbering.specs.Numberings.{IsGrown, IsNumbering, Numbering}
@@ -27,7 +27,8 @@ use Rattle.numbering.specs.declared.known_problem.KnownProblem.{KnownProblem}
 use Rattle.guiding.specs.inner.Searching.{HasSpaces, IsOnly, IsSeen, Pairs}
 use Rattle.guiding.specs.inner.Searching as searching
 use Rattle.guiding.proofs.Seen.{seen_all}
-use Rattle.guiding.specs.inner.Guides.{AreAll, AreFirst, EncodedView, IsAskedFor, IsAsking, IsCome, IsEncoding, encoded_view}
+use Rattle.guiding.specs.inner.Guides.{AreAll, AreFirst, EncodedView, IsAskedFor, IsAsking, IsCome, IsEncoding}
+use Rattle.guiding.specs.inner.Guides.{encoded_view}
 use Rattle.guiding.specs.inner.Guides.{marked, on_trail, with_given}
 use Rattle.guiding.specs.inner.Remaining.{spaces_of}
 use Rattle.guiding.proofs.Marks.{lengths_at, mark_lengths}

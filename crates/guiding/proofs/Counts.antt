@@ -17,7 +17,8 @@ axiom_is : (o : Origin) → IsAxiom o → links_in o ≡ 0
 axiom_is (Axiom kind) given = refl
 axiom_is (Learned chain) given = absurd given
 
-pub no_combinations : (xs : List EntryView) → ((i : ℕ) → i < length xs → IsAxiom (entry xs i).origin) → combinations xs ≡ 0
+pub no_combinations : (xs : List EntryView)
+    → ((i : ℕ) → i < length xs → IsAxiom (entry xs i).origin) → combinations xs ≡ 0
 no_combinations [] given = refl
 no_combinations (x ∷ xs) given = omega (
   arith,

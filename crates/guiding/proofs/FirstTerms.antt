@@ -11,9 +11,8 @@ use Rattle.incompatibilities.specs.Incompatibilities.{unless_full}
 use Rattle.incompatibilities.specs.Incompatibilities as numbered
 use Rattle.terms.specs.Terms.{TermView}
 use Rattle.model.specs.Summary.{Dependency, dependency_feature}
-use Rattle.model.specs.Content.{Problem}
-use Rattle.model.specs.Optional.{passes}
-use Rattle.model.specs.WellFormed.{IsCatalogue}
+use Rattle.model.specs.Content.{Problem, passes}
+use Rattle.model.specs.Order.{IsCatalogue}
 use Rattle.model.specs.Vertices.{Owner, the_root, version_of, Vertex, root, pkg, dep, feat, ask, State, absent}
 use Rattle.model.specs.Vertices.{has_state, in_class, same_state, same_vertex, dep_space, space, owner_brings}
 use Rattle.model.specs.Selection.{Class}

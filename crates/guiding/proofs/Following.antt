@@ -18,7 +18,7 @@ use Rattle.model.specs.inner.Assignment.{Assigns, Has}
 use Rattle.model.specs.Content.{Content, Problem}
 use Rattle.model.specs.Selection.{IsValidSelection}
 use Rattle.model.specs.Vertices.{State, Vertex, absent, space}
-use Rattle.model.specs.WellFormed.{IsCatalogue}
+use Rattle.model.specs.Order.{IsCatalogue}
 use Rattle.model.proofs.Lists.{pairs_first, pairs_rest}
 use Rattle.model.proofs.Places.{got_in}
 use Rattle.model.specs.Causes.{kind_of, terms_of_cause}

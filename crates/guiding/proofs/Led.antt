@@ -10,7 +10,7 @@ use Rattle.model.specs.Content as model
 use Rattle.model.specs.Content.{Content, last_serving}
 use Rattle.model.specs.Summary.{Dependency}
 use Rattle.model.specs.Vertices.{Owner}
-use Rattle.model.specs.WellFormed.{IsContent}
+use Rattle.model.specs.Order.{IsContent}
 use Rattle.model.proofs.Contents.{rising_at, within_at}
 use Rattle.lockfile.specs.inner.Views.{package_view, package_views}
 use Rattle.lockfile.specs.declared.package.Package.{Package}

@@ -17,11 +17,10 @@ use Rattle.lockfile.specs.inner.Views.{package_view, package_views}
 use Rattle.lockfile.specs.declared.package.Package as locked
 use Rattle.model.specs.Content.{Package, Problem}
 use Rattle.model.specs.Axioms.{is_lower}
-use Rattle.model.specs.Order.{package_cmp, precedence, source_cmp, text_cmp, version_cmp}
+use Rattle.model.specs.Order.{package_cmp, precedence, source_cmp, text_cmp, version_cmp, IsContent}
 use Rattle.model.specs.Selection.{Class, class_of, IsValidSelection}
 use Rattle.model.specs.Summary.{same_text}
 use Rattle.model.specs.Vertices.{same_class}
-use Rattle.model.specs.WellFormed.{IsContent}
 use Rattle.model.proofs.Contents.{text-equal}
 use Rattle.model.proofs.Orders.{class_above}
 use Rattle.model.proofs.Owners.{root_parts}

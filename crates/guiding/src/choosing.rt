@@ -21,7 +21,8 @@ pub(crate) fn greatest<S: States>(set: &S) -> u32
     0
 }
 
-/// A number of a set that isn't empty: 0, else the greatest. Where one state is left, it mostly is absent or the newest.
+/// A number of a set that isn't empty: 0, else the greatest. Where one state is left, it mostly is absent or the
+/// newest.
 pub(crate) fn any_of<S: States>(set: &S) -> u32
     requires { 0 < size (S.tests set.now) }
     ensures { has (S.tests set.now) result ≡ true }

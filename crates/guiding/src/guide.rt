@@ -11,7 +11,8 @@ ghost use Rattle.propagation.specs.Trails.{set_of, trail_view};
 ghost use Rattle.guiding.specs.inner.Searching.{CanDecide, HasSpaces};
 ghost use Rattle.version_sets.specs.Sets.{has, size};
 ghost use Rattle.vertices.specs.inner.RefViews.{vertex_ref_view};
-ghost use Rattle.guiding.specs.inner.Guides.{CanAsk, CanFollow, Follows, HasBegun, IsAsking, IsFollowed, IsUnasked, on_trail};
+ghost use Rattle.guiding.specs.inner.Guides.{CanAsk, CanFollow, Follows, HasBegun, IsAsking, IsFollowed, IsUnasked};
+ghost use Rattle.guiding.specs.inner.Guides.{on_trail};
 ghost use Rattle.guiding.specs.inner.Remaining.{spaces_of};
 
 use crate::choosing::{greatest, is_undecided};

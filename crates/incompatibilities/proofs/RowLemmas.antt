@@ -128,7 +128,8 @@ pub entering_last : {S E : Type 0} (item : Term S → E) (old now : Rows E) (all
 entering_last {S} {E} item old now all left none r v = sym (append-nil (row_at now v))
     ∙ ap (λ (l : List (Term S)). row_at now v ++ listed_in item v l) (sym none) ∙ r.rows v
 
-pub entering_more : {S E : Type 0} (item : Term S → E) (old now next : Rows E) (all left rest : List (Term S)) (t : Term S)
+pub entering_more : {S E : Type 0} (item : Term S → E) (old now next : Rows E)
+    (all left rest : List (Term S)) (t : Term S)
     → left ≡ t ∷ rest
     → row_at next t.vertex ≡ row_at now t.vertex ++ item t ∷ []
     → ((v : ℕ) → v ≢ t.vertex → row_at next v ≡ row_at now v)

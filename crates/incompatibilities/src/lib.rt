@@ -6,7 +6,8 @@
 //!
 //! `combine` is the one rule by which anything follows: the union of the two at one vertex, the intersection at each
 //! other one. What breaks the combination breaks one of the two. A `Store` keeps for each entry that it is an axiom, or
-//! the chain of combinations of earlier entries (`Chain`) that it came out of, and so it is the type itself that says: an
+//! the chain of combinations of earlier entries (`Chain`) that it came out of, and so it is the type itself that says:
+//! an
 //! assignment that breaks an entry breaks an axiom of the store (`Follows`). A refusal is made of nothing else. What
 //! comes out within a chain is no entry: no store keeps it, and who needs it combines again.
 //!

@@ -21,12 +21,12 @@ use Rattle.index_lines.specs.inner.ByParts.{lacks_parts, part_of_bytes, record_o
 use Rattle.index_lines.specs.inner.ByParts.{table_alone}
 use Rattle.index_lines.specs.inner.ByParts.{table_of_bytes}
 use Rattle.index_lines.specs.Records.{RecordView, dependencies_read, is_of_index, required, semver_or, unless}
-use Rattle.index_lines.specs.Records.{unchecked_of_shape, unchecked_of_line}
+use Rattle.index_lines.specs.Records.{unchecked_of_shape, unchecked_of_line, dep_names_of, features_of, unless_faulty}
+use Rattle.index_lines.specs.Records.{with_features, written_of}
 use Rattle.index_lines.specs.Shapes.{Line, DependencyView, FeatureView, ShapeView, as_whole, data_of_bytes, needed}
 use Rattle.index_lines.specs.Shapes.{dependencies_at, features_at, features_or_none, flag_at, needed_dependencies}
 use Rattle.index_lines.specs.Shapes.{optional, rust_version_at, rust_version_in, shape_of, text_at, unless_null}
 use Rattle.index_lines.specs.Shapes.{value_at, whole_at}
-use Rattle.index_lines.specs.Written.{dep_names_of, features_of, unless_faulty, with_features, written_of}
 use Rattle.index_lines.specs.declared.shortcuts.split.LineParts.{LineParts}
 use Rattle.index_lines.specs.declared.fault.SkipReason.{SkipReason}
 use Rattle.index_lines.specs.declared.fault.LineFault.TheVariants.{Skipped}

@@ -15,9 +15,9 @@ use Rattle.index_lines.specs.inner.ByParts.{dependencies_of_bytes, dependencies_
 use Rattle.index_lines.specs.inner.ByParts.{part_of_bytes, taking_part}
 use Rattle.index_lines.specs.inner.Items.{item_names, item_texts, those_taking_part, with_any}
 use Rattle.index_lines.specs.Records.{dependencies_read, dependency_read, is_of_index, required, required_part, unless}
+use Rattle.index_lines.specs.Records.{dep_name_of, dep_names_of}
 use Rattle.index_lines.specs.Shapes.{DependencyView, PartView, dependencies_in, dependency_of, dev, part}
 use Rattle.index_lines.specs.Shapes.{needed_dependencies, unless_null}
-use Rattle.index_lines.specs.Written.{dep_name_of, dep_names_of}
 use Rattle.index_lines.specs.declared.fault.LineFault.TheVariants.{Skipped}
 use Rattle.index_lines.specs.declared.fault.SkipReason.TheVariants.{NotJson, OtherRegistry}
 use Rattle.index_lines.specs.declared.shortcuts.item.ItemRead.{ItemRead}

@@ -21,8 +21,8 @@ use Rattle.index_lines.specs.Shapes.{Line, FeatureView, wants_memory}
 use Rattle.index_lines.specs.declared.fault.LineFault.{LineFault}
 use Rattle.index_lines.specs.declared.fault.LineFault.TheVariants.{Skipped}
 use Rattle.index_lines.specs.declared.fault.SkipReason.TheVariants.{BadFeatures}
-use Rattle.index_lines.specs.Written.{entries_read, feature_read, features_read, joined, names_rise, with_features}
-use Rattle.index_lines.specs.Written.{with_more}
+use Rattle.index_lines.specs.Records.{entries_read, feature_read, features_read, joined, names_rise, with_features}
+use Rattle.index_lines.specs.Records.{with_more}
 use Rattle.model.proofs.Fronts.{with_front, with_front-next}
 
 -- ---- a row behind others

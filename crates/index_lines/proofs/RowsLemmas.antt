@@ -21,7 +21,7 @@ use Rattle.index_lines.specs.inner.ByParts.{IsRow, item_depth, part_of_bytes, ro
 use Rattle.index_lines.specs.inner.ByParts.{value_behind}
 use Rattle.index_lines.specs.inner.Rows.{braced, row_texts, row_views}
 use Rattle.index_lines.specs.Shapes.{FeatureView, features_in, features_or_none, texts_of, unless_null}
-use Rattle.index_lines.specs.Written.{feature_read, features_read, names_rise, unless_faulty, with_features}
+use Rattle.index_lines.specs.Records.{feature_read, features_read, names_rise, unless_faulty, with_features}
 use Rattle.index_lines.specs.declared.fault.LineFault.TheVariants.{Skipped}
 use Rattle.index_lines.specs.declared.fault.SkipReason.TheVariants.{NotJson}
 use Rattle.index_lines.specs.declared.shortcuts.row.RowRead.{RowRead}

@@ -20,7 +20,7 @@ use Rattle.features.proofs.TableLemmas.{at_is, entries_at-rows_of}
 use Rattle.index_lines.specs.inner.ShapeViews.{feature_views}
 use Rattle.index_lines.specs.Shapes.{ShapeView}
 use Rattle.index_lines.specs.declared.shape.FeatureShape.{FeatureShape}
-use Rattle.index_lines.specs.Written.{with_more, joined, with_features, written_of}
+use Rattle.index_lines.specs.Records.{with_more, joined, with_features, written_of}
 
 pub set-rows : (name : List ℕ) (es : List (List ℕ × Vec Entry Global)) (w : Vec Entry Global)
     → rows_of (set_value (is_at (slice_cmp nat_cmp name)) es w)

@@ -1,5 +1,4 @@
 pub mod Shapes
-pub mod Written
 pub mod Records
 pub mod Reasons
 pub mod Views

@@ -11,7 +11,7 @@ use Rattle.model.specs.Summary.{same_text}
 use Rattle.features.specs.Names.{is_package_name}
 use Rattle.features.specs.declared.dependency.DependencyKind.{DependencyKind}
 use Rattle.features.specs.declared.dependency.DependencyKind.TheVariants.{Normal, Build, Dev}
-use Rattle.classes.specs.RustVersions.{rust_version_of}
+use Rattle.classes.specs.Classes.{rust_version_of}
 use Rattle.trees.specs.Trees as trees
 use Rattle.index_lines.specs.declared.fault.LineFault.{LineFault}
 use Rattle.index_lines.specs.declared.fault.LineFault.TheVariants.{OutOfMemory, Skipped}

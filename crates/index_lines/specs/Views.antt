@@ -3,7 +3,7 @@ use Rattle.std.specs.Prelude.{List, map, option_map, string_bytes}
 use Rattle.semver.specs.Identifiers.{parts_of}
 use Rattle.semver.specs.Parse.{Held}
 use Rattle.features.specs.Views.{requirement_view, summary_view}
-use Rattle.classes.specs.RustVersions.{rust_version_view}
+use Rattle.classes.specs.Classes.{rust_version_view}
 use Rattle.index_lines.specs.Shapes.{PartView}
 use Rattle.index_lines.specs.inner.ShapeViews.{part_view}
 use Rattle.index_lines.specs.Records.{RecordView}

@@ -8,7 +8,7 @@ ghost use Rattle.index_lines.specs.Shapes.{package_name_or_none, kind_of, kind_o
 ghost use Rattle.index_lines.specs.Shapes.{dependency_of, dependencies_in, needed_dependencies, features_in};
 ghost use Rattle.index_lines.specs.Shapes.{features_or_none, rust_version_in, shape_of, texts_of};
 ghost use Rattle.features.specs.Views.{text_views};
-ghost use Rattle.classes.specs.RustVersions.{rust_version_view};
+ghost use Rattle.classes.specs.Classes.{rust_version_view};
 ghost use Rattle.index_lines.specs.inner.ShapeViews.{feature_views, part_view, line_dependency_view};
 ghost use Rattle.index_lines.specs.inner.ShapeViews.{line_dependency_views};
 ghost use Rattle.index_lines.specs.inner.ShapeViews.{line_values_view, shape_view, values_view};

@@ -6,7 +6,7 @@ ghost use Rattle.std.specs.Ordering.{is_lt};
 ghost use Rattle.model.specs.Order.{text_cmp};
 ghost use Rattle.model.specs.Outcome.{Gives};
 ghost use Rattle.model.specs.Tables.{table_of};
-ghost use Rattle.features.specs.Entries.{entry_of};
+ghost use Rattle.features.specs.Names.{entry_of};
 ghost use Rattle.features.specs.EntryViews.{entry_view, entry_views};
 ghost use Rattle.features.specs.inner.Tables.{AreRising, built, dep_name_view, dep_names_view, rows_of};
 ghost use Rattle.features.specs.inner.Tables.{table_wants_memory};
@@ -15,9 +15,9 @@ ghost use Rattle.index_lines.specs.Shapes.{wants_memory};
 ghost use Rattle.features.specs.Views.{text_views};
 ghost use Rattle.index_lines.specs.inner.ShapeViews.{feature_view, feature_views, line_dependency_view};
 ghost use Rattle.index_lines.specs.inner.ShapeViews.{line_dependency_views, shape_view};
-ghost use Rattle.index_lines.specs.Written.{feature_name_of, entry_read, entries_read, feature_read, features_read};
-ghost use Rattle.index_lines.specs.Written.{joined, names_rise, with_feature, with_features, written_of, dep_name_of};
-ghost use Rattle.index_lines.specs.Written.{dep_names_of, unless_faulty, features_of, skip_of};
+ghost use Rattle.index_lines.specs.Records.{feature_name_of, entry_read, entries_read, feature_read, features_read};
+ghost use Rattle.index_lines.specs.Records.{joined, names_rise, with_feature, with_features, written_of, dep_name_of};
+ghost use Rattle.index_lines.specs.Records.{dep_names_of, unless_faulty, features_of, skip_of};
 
 use crate::fault::{LineFault, SkipReason};
 use crate::shape::{DependencyShape, FeatureShape, LineShape};
@@ -29,7 +29,7 @@ use std::alloc::{AllocError, Global};
 use std::collections::BTreeMap;
 
 /// The feature table of a line.
-#[tactic(auto, unfolding(crate::specs::Written::features_of))]
+#[tactic(auto, unfolding(crate::specs::Records::features_of))]
 pub(crate) fn features(alloc: Global, line: &LineShape<'_>) -> Result<FeatureTable, LineFault>
     ensures { Gives wants_memory (λ t. t) result (features_of (shape_view line.now)) }
 {
@@ -101,7 +101,7 @@ pub(crate) fn comes_before(name: &str, next: &str) -> bool
 }
 
 /// The features with their entries, one after another.
-#[tactic(auto, unfolding(crate::specs::Written::features_read))]
+#[tactic(auto, unfolding(crate::specs::Records::features_read))]
 fn rows(
     alloc: Global,
     features: &[FeatureShape<'_>],
@@ -115,7 +115,7 @@ fn rows(
     Ok(found)
 }
 
-#[tactic(auto, unfolding(crate::specs::Written::feature_read))]
+#[tactic(auto, unfolding(crate::specs::Records::feature_read))]
 fn row(alloc: Global, feature: &FeatureShape<'_>) -> Result<(FeatureName, Vec<Entry>), LineFault>
     ensures { Gives wants_memory
         (λ row. (row.0, entry_views row.1.items)) result (feature_read (feature_view feature.now)) }
@@ -125,7 +125,7 @@ fn row(alloc: Global, feature: &FeatureShape<'_>) -> Result<(FeatureName, Vec<En
     Ok((name, entries))
 }
 
-#[tactic(auto, unfolding(crate::specs::Written::with_features))]
+#[tactic(auto, unfolding(crate::specs::Records::with_features))]
 fn with_features(
     alloc: Global,
     mut written: BTreeMap<FeatureName, Vec<Entry>>,
@@ -140,7 +140,7 @@ fn with_features(
     Ok(written)
 }
 
-#[tactic(auto, unfolding(crate::specs::Written::feature_read))]
+#[tactic(auto, unfolding(crate::specs::Records::feature_read))]
 fn with_feature(
     alloc: Global,
     written: BTreeMap<FeatureName, Vec<Entry>>,
@@ -171,7 +171,7 @@ fn with_entries(
     Ok(written)
 }
 
-#[tactic(auto, unfolding(crate::specs::Written::entries_read))]
+#[tactic(auto, unfolding(crate::specs::Records::entries_read))]
 pub(crate) fn entries(alloc: Global, texts: &[&str]) -> Result<Vec<Entry>, LineFault>
     ensures { Gives wants_memory (λ v. entry_views v.items) result (entries_read (text_views texts.now)) }
 {

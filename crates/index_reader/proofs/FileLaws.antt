@@ -16,12 +16,12 @@ use Rattle.model.proofs.Candidates.{precedence_total}
 use Rattle.model.proofs.Lists.{all_none, all_cons, pairs_none, pairs_one, pairs_all, pairs_rest}
 use Rattle.model.proofs.Tables.{built-knows}
 use Rattle.index_lines.specs.Shapes.{Line, ShapeView, data_of_bytes, shape_of}
-use Rattle.index_lines.specs.Written.{written_of, dep_names_of, unless_faulty, features_of}
-use Rattle.index_lines.specs.Records.{RecordView, unless, semver_or, required, dependencies_read, is_of_index}
-use Rattle.index_lines.specs.Records.{is_checksum, unchecked_of_shape, unchecked_of_line}
+use Rattle.index_lines.specs.Records.{written_of, dep_names_of, unless_faulty, features_of, RecordView, unless}
+use Rattle.index_lines.specs.Records.{semver_or, required, dependencies_read, is_of_index, is_checksum}
+use Rattle.index_lines.specs.Records.{unchecked_of_shape, unchecked_of_line}
 use Rattle.index_reader.specs.Files.{FileView, same_precedence, has_version, no_lines, with_skip, with_record}
 use Rattle.index_reader.specs.Files.{with_found, with_read, with_line, with_lines, records_of_file}
-use Rattle.trees.specs.Lines.{is_line_end, is_blank}
+use Rattle.trees.specs.Trees.{is_line_end, is_blank}
 use Rattle.index_lines.specs.declared.fault.SkipReason.TheVariants.{NewerFormat, OtherName, BadVersion, OtherRegistry}
 use Rattle.index_lines.specs.declared.fault.SkipReason.TheVariants.{BadChecksum, Duplicate}
 use Rattle.index_lines.specs.declared.fault.LineFault.TheVariants.{OutOfMemory, Skipped}

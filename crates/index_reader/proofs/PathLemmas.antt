@@ -5,7 +5,7 @@ use Rattle.std.specs.Char.{to_ascii_lowercase}
 use Rattle.std.specs.Str.{IsAscii}
 use Rattle.std.proofs.lemmas.Bool.Decides.{nat_tests}
 use Rattle.features.specs.Names.{is_package_byte, is_package_name}
-use Rattle.index_reader.specs.Paths.{lower}
+use Rattle.index_reader.specs.Folders.{lower}
 
 lower_byte : (b : ℕ) → is_package_byte b ≡ true → to_ascii_lowercase b < 128
 lower_byte b named = grind (arith, nat_tests)

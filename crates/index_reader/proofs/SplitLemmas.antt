@@ -4,7 +4,7 @@ use Rattle.std.proofs.Common.{ap, ◌∙◌, arith}
 use Rattle.std.specs.List.{onto_first, slice_split}
 use Rattle.std.specs.Prelude.{slice_index}
 use Rattle.std.proofs.lemmas.List.Splits.{slice_split-cons_yes, slice_split-cons_no}
-use Rattle.trees.specs.Lines.{is_line_end}
+use Rattle.trees.specs.Trees.{is_line_end}
 
 is_no : (b : Bool) → (b ≡ true → ⊥) → b ≡ false
 is_no true h = absurd (h refl)

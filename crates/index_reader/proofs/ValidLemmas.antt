@@ -18,11 +18,10 @@ use Rattle.model.specs.Outcome.{◌>>=◌}
 use Rattle.model.specs.Summary as model
 use Rattle.model.specs.Summary.{Entry, Table, entries_at, same_text}
 use Rattle.model.specs.Tables.{TableFault, Written, table_of}
-use Rattle.trees.specs.Lines.{is_blank, is_line_end}
+use Rattle.trees.specs.Trees.{is_blank, is_line_end}
 use Rattle.trees.specs.Trees as trees
 use Rattle.trees.proofs.Sizes.{size, items_size, members_size, size-some, data-few}
-use Rattle.features.specs.Entries.{entry_of}
-use Rattle.features.specs.Names.{is_package_name, is_feature_name}
+use Rattle.features.specs.Names.{entry_of, is_package_name, is_feature_name}
 use Rattle.features.specs.inner.Valid.{IsPackageName, IsFeatureName, IsValidEntry, IsValidRow, IsValidDependency}
 use Rattle.features.specs.inner.Valid.{BringsValid}
 use Rattle.features.proofs.ValidLemmas.{entry-valid, row-valid, built-valid}
@@ -33,15 +32,13 @@ use Rattle.index_lines.specs.Shapes.{part_with}
 use Rattle.index_lines.specs.Shapes.{package_name_or_none, optional, text_of, dependency_of}
 use Rattle.index_lines.specs.Shapes.{dependencies_in, needed_dependencies, dependencies_at, FeatureView, ShapeView}
 use Rattle.index_lines.specs.Shapes.{shape_of}
-use Rattle.index_lines.specs.Written.{feature_name_of, entry_read, entries_read, feature_read, with_more, joined}
-use Rattle.index_lines.specs.Written.{with_feature, with_features, written_of, dep_name_of, dep_names_of}
-use Rattle.index_lines.specs.Written.{unless_faulty}
-use Rattle.index_lines.specs.Written.{features_of}
-use Rattle.index_lines.specs.Records.{RecordView, unless, semver_or, required_part, required, is_empty_text, before}
-use Rattle.index_lines.specs.Records.{feature_names, dependency_read, dependencies_read, is_of_index, is_checksum}
-use Rattle.index_lines.specs.Records.{unchecked_of_shape, unchecked_of_line}
-use Rattle.index_reader.specs.Files.{FileView, has_version, no_lines, with_skip, with_found, with_read}
-use Rattle.index_reader.specs.Files.{with_line, with_lines, records_of_file}
+use Rattle.index_lines.specs.Records.{feature_name_of, entry_read, entries_read, feature_read, with_more, joined}
+use Rattle.index_lines.specs.Records.{with_feature, with_features, written_of, dep_name_of, dep_names_of, unless_faulty}
+use Rattle.index_lines.specs.Records.{features_of, RecordView, unless, semver_or, required_part, required}
+use Rattle.index_lines.specs.Records.{is_empty_text, before, feature_names, dependency_read, dependencies_read}
+use Rattle.index_lines.specs.Records.{is_of_index, is_checksum, unchecked_of_shape, unchecked_of_line}
+use Rattle.index_reader.specs.Files.{FileView, has_version, no_lines, with_skip, with_found, with_read, with_line}
+use Rattle.index_reader.specs.Files.{with_lines, records_of_file}
 use Rattle.index_lines.specs.declared.fault.LineFault.TheVariants.{OutOfMemory, Skipped}
 use Rattle.index_lines.specs.declared.fault.SkipReason.TheVariants as reason
 
@@ -191,7 +188,8 @@ required-few (part p ∷ ds) =
 feature-named : (text : List ℕ) → IfOk (feature_name_of text) IsFeatureName
 feature-named text = by (is_feature_name text) refl
   where
-    by : (b : Bool) → is_feature_name text ≡ b → IfOk (cond b (Ok text) (Err (Skipped reason.BadFeatures))) IsFeatureName
+    by : (b : Bool) → is_feature_name text ≡ b
+        → IfOk (cond b (Ok text) (Err (Skipped reason.BadFeatures))) IsFeatureName
     by true e = e
     by false e = tt
 

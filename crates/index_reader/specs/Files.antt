@@ -1,17 +1,21 @@
 -- What a file of an index says: its lines, and of these the records and the skips (Cargo book, "Registry Index";
 -- skipping, and one version of equal precedence a file, are our own).
 use Rattle.std.specs.Prelude.{ℕ, ◌+◌, ◌-◌, ◌==◌, ◌&&◌, Bool, not, if◌then◌else◌, List, [], ◌∷◌, ◌++◌, length, count_by}
-use Rattle.std.specs.Prelude.{slice_index, Ok, Err}
+use Rattle.std.specs.Prelude.{slice_index, Ok, Err, map, Vec}
 use Rattle.std.specs.List.{list_any, slice_split}
 use Rattle.std.specs.Ordering.{is_eq}
 use Rattle.semver.specs.Parse.{Parts}
 use Rattle.model.specs.Order.{precedence}
-use Rattle.trees.specs.Lines.{is_blank, is_line_end}
+use Rattle.trees.specs.Trees.{is_blank, is_line_end}
 use Rattle.index_lines.specs.Shapes.{Line}
 use Rattle.index_lines.specs.Records.{RecordView, is_checksum, unchecked_of_line}
 use Rattle.index_lines.specs.declared.fault.SkipReason.{SkipReason}
 use Rattle.index_lines.specs.declared.fault.SkipReason.TheVariants.{BadChecksum, Duplicate}
 use Rattle.index_lines.specs.declared.fault.LineFault.TheVariants.{OutOfMemory, Skipped}
+use Rattle.std.specs.declared.alloc.Global.{Global}
+use Rattle.index_lines.specs.Views.{record_view}
+use Rattle.index_lines.specs.declared.record.Record.{Record}
+use Rattle.index_reader.specs.declared.skip.Skip.{Skip}
 
 -- some bytes, the last of which ends no line
 abbrev pub ends_open : List ℕ → Bool
@@ -73,3 +77,14 @@ with_lines name n (text ∷ texts) file = with_lines name (n + 1) texts (with_li
 -- what the file of a name says
 abbrev pub records_of_file : List ℕ → List ℕ → FileView
 records_of_file name bytes = with_lines name 1 (slice_split is_line_end bytes) no_lines
+
+-- ---- What skips and whole files stand for (Cargo book, "Registry Index").
+
+abbrev pub skip_view : Skip → SkipView
+skip_view s = record { name = s.name; line = s.line; reason = s.reason }
+
+abbrev pub file_view : List Record → List Skip → FileView
+file_view records skips = record { records = map record_view records; skips = map skip_view skips }
+
+abbrev pub contents_view : Vec Record Global × Vec Skip Global → FileView
+contents_view contents = file_view contents.0.items contents.1.items

@@ -1,7 +1,9 @@
 -- What a folder of files answers for a path, and when a call of it may fail (Cargo book, "Registry Index"; the counting
 -- of failures is our own).
-use Rattle.std.specs.Prelude.{◌≡◌, ℕ, ◌<◌, ◌⊎◌, ◌^◌, ◌-◌, ◌+◌, ◌==◌, nat_le, Bool, true, false, if◌then◌else◌, List}
-use Rattle.std.specs.Prelude.{Option, option_map, Result, Ok, Err, String, Vec, string_bytes}
+use Rattle.std.specs.Prelude.{ℕ, ◌==◌, if◌then◌else◌, List, ◌++◌, length, take, drop, map, codes, ◌≡◌, ◌<◌, ◌⊎◌, ◌^◌}
+use Rattle.std.specs.Prelude.{◌-◌, ◌+◌, nat_le, Bool, true, false, Option, option_map, Result, Ok, Err, String, Vec}
+use Rattle.std.specs.Prelude.{string_bytes}
+use Rattle.std.specs.Char.{to_ascii_lowercase}
 use Rattle.std.specs.Ordering.{nat_cmp}
 use Rattle.std.specs.Cmp.Lexicographic.{slice_cmp}
 use Rattle.std.specs.Map.{lookup}
@@ -9,6 +11,21 @@ use Rattle.std.specs.BTreeMap.{is_at}
 use Rattle.std.specs.declared.alloc.Global.{Global}
 use Rattle.index_reader.specs.declared.folder.FolderFault.{FolderFault}
 use Rattle.index_reader.specs.declared.folder.FolderFault.TheVariants.{OutOfMemory, Failed}
+
+-- ---- Where the file of a name lies in an index (Cargo book, "Registry Index", "Index files").
+
+abbrev pub lower : List ℕ → List ℕ
+lower name = map to_ascii_lowercase name
+
+-- the folder of a name in lower case: by its length, and from three letters on by how it begins
+abbrev pub folder_of : List ℕ → List ℕ
+folder_of name = if length name == 1 then codes "1/"
+    else if length name == 2 then codes "2/"
+    else if length name == 3 then codes "3/" ++ take 1 name ++ codes "/"
+    else take 2 name ++ codes "/" ++ take 2 (drop 2 name) ++ codes "/"
+
+abbrev pub path_of : List ℕ → List ℕ
+path_of name = folder_of (lower name) ++ lower name
 
 -- what a call answered: the bytes of the file, if there is one
 abbrev pub Answer : Type 0

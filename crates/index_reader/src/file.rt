@@ -3,8 +3,8 @@
 ghost use Rattle.std.specs.Prelude.{◌≡◌, ◌≤◌, IfOk, count_by, map};
 ghost use Rattle.std.specs.List.{slice_split};
 ghost use Rattle.index_reader.specs.Files.{line_count, with_skip, with_line, with_lines, no_lines, records_of_file};
-ghost use Rattle.trees.specs.Lines.{is_line_end};
-ghost use Rattle.index_reader.specs.Views.{file_view, contents_view};
+ghost use Rattle.index_reader.specs.Files.{file_view, contents_view};
+ghost use Rattle.trees.specs.Trees.{is_line_end};
 
 use crate::file_so_far::FileSoFar;
 use crate::skip::Skip;

@@ -8,7 +8,8 @@
 //! A folder is a trait (`Folder`) with a relation of its own, so that what stands on it is proved over every folder;
 //! `DiskFolder` is exact over anything that opens files (`Opens`), and of the system's call alone nothing is promised.
 //! Not found is what the system calls so: a folder in the place of a file is a failure of the folder, so that a disk
-//! that fails isn't taken for an empty index. `read_line` knows one line and answers S11, where `read_file` looks for an
+//! that fails isn't taken for an empty index. `read_line` knows one line and answers S11, where `read_file` looks for
+//! an
 //! earlier version first, since the lowest number is answered.
 //!
 //! A layer above may rely on this: `read_line` and `read_file` give what the definitions give for the bytes, unless

@@ -2,7 +2,7 @@
 
 ghost use Rattle.std.specs.Prelude.{◌≡◌, ◌<◌, ◌++◌, length, IfOk, string_bytes};
 ghost use Rattle.std.specs.Str.{IsAscii};
-ghost use Rattle.index_reader.specs.Paths.{folder_of, path_of};
+ghost use Rattle.index_reader.specs.Folders.{folder_of, path_of};
 
 use features::PackageName;
 use std::alloc::{AllocError, Global};

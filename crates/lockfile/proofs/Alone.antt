@@ -12,8 +12,7 @@ use Rattle.std.proofs.lemmas.Option.{slice_get-map}
 use Rattle.std.proofs.lemmas.Bool.{and_from}
 use Rattle.semver.specs.Grammar.{IsValid}
 use Rattle.semver.specs.Parse.{Parts}
-use Rattle.model.specs.Content.{Package, Content, same_version}
-use Rattle.model.specs.Optional.{passes}
+use Rattle.model.specs.Content.{Package, Content, same_version, passes}
 use Rattle.model.specs.Order.{text_cmp, version_cmp}
 use Rattle.model.specs.Summary.{same_text}
 use Rattle.lockfile.specs.inner.Search.{IsOrdered, IsRead, named_cmp, versioned_cmp, wanted_cmp, is_wanted}

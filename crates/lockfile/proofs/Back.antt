@@ -17,16 +17,14 @@ use Rattle.semver.specs.Parse.{Parts}
 use Rattle.semver.proofs.Grammar.{version_parts-complete}
 use Rattle.features.specs.Names.{is_package_name}
 use Rattle.model.specs.Content.{Package, Content}
-use Rattle.model.specs.Order.{package_cmp}
-use Rattle.model.specs.WellFormed.{IsContent}
+use Rattle.model.specs.Order.{package_cmp, IsContent, has_alike, put_in, in_order}
 use Rattle.lockfile.specs.Locks.{Unlinked, version_known, unlinked_of, unlinked_in, packages_at, texts_in}
 use Rattle.lockfile.specs.Locks.{unlinked_alike, unlinked_cmp, ordered_packages, locked_packages, linked, place_meant}
 use Rattle.lockfile.specs.Locks.{places_meant, ordered_places, list_of, lists_of, content_of, content_of_table}
 use Rattle.lockfile.specs.Locks.{content_of_bytes, table_of_bytes, most_bytes}
-use Rattle.model.specs.Sorting.{has_alike, put_in, in_order}
 use Rattle.lockfile.specs.inner.Search.{IsOrdered, IsRead}
-use Rattle.lockfile.specs.Spelling.{dependency_text, listed_cmp, at_places, list_texts, spelling}
-use Rattle.lockfile.specs.Table.{text_items, section_of, sections_of, table_of, IsPlain, IsWritable}
+use Rattle.lockfile.specs.Spelling.{dependency_text, listed_cmp, at_places, list_texts, spelling, text_items}
+use Rattle.lockfile.specs.Spelling.{section_of, sections_of, table_of, IsPlain, IsWritable}
 use Rattle.lockfile.specs.inner.Written.{AreRead}
 use Rattle.lockfile.proofs.Means.{unlisted, text-means, means-unlisted}
 use Rattle.lockfile.proofs.PackageOrder.{package-eq, unlinked_total}

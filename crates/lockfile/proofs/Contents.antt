@@ -11,12 +11,10 @@ use Rattle.std.proofs.lemmas.List.{length-map}
 use Rattle.std.proofs.lemmas.List.Elements.{All-from_recursion}
 use Rattle.std.proofs.lemmas.Map.Keys.{Less-from_sorted, below_from_sorted}
 use Rattle.model.specs.Content.{Package, Content}
-use Rattle.model.specs.Order.{package_cmp}
+use Rattle.model.specs.Order.{package_cmp, IsContent, in_order, has_alike}
 use Rattle.model.specs.Outcome.{◌>>=◌}
-use Rattle.model.specs.WellFormed.{IsContent}
 use Rattle.lockfile.specs.Locks.{Unlinked, locked_packages, linked, lists_of, list_of, places_meant, place_meant}
 use Rattle.lockfile.specs.Locks.{ordered_places, only, places, places_from, or_else, is_form, is_form_without_source}
-use Rattle.model.specs.Sorting.{in_order, has_alike}
 use Rattle.lockfile.specs.inner.Search.{IsOrdered}
 use Rattle.lockfile.specs.declared.fault.LockFault.{LockFault}
 use Rattle.lockfile.specs.declared.fault.LockFault.TheVariants.{LockShape}

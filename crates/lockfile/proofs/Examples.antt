@@ -6,8 +6,7 @@ use Rattle.std.specs.Str.{is_utf8, chars}
 use Rattle.model.specs.Content.{Package}
 use Rattle.toml.proofs.OnLiterals.{toml_on_literals}
 use Rattle.lockfile.specs.Locks.{table_of_bytes}
-use Rattle.lockfile.specs.Spelling.{spelling}
-use Rattle.lockfile.specs.Table.{table_of}
+use Rattle.lockfile.specs.Spelling.{spelling, table_of}
 
 abbrev lines : List (List ℕ) → List ℕ
 lines ls = flat_map (λ l. l ++ 10 ∷ []) ls

@@ -9,8 +9,7 @@ use Rattle.std.proofs.lemmas.Bool.{eqb-true, and_from}
 use Rattle.std.proofs.lemmas.Cmp.{nat_list_cmp_total, tied_itself}
 use Rattle.semver.specs.Identifiers.{parts_text}
 use Rattle.semver.proofs.Grammar.{version_parts-complete}
-use Rattle.model.specs.Content.{Package, Content, same_version}
-use Rattle.model.specs.Optional.{passes}
+use Rattle.model.specs.Content.{Package, Content, same_version, passes}
 use Rattle.model.specs.Order.{text_cmp, version_cmp, package_cmp}
 use Rattle.model.specs.Summary.{same_text}
 use Rattle.lockfile.specs.Locks.{version_form, is_form, is_form_without_source, places_from, places, only, or_else}

@@ -16,9 +16,8 @@ use Rattle.semver.specs.OrderLaws.{same_text}
 use Rattle.semver.specs.Parse.{Parts, version_parts}
 use Rattle.semver.proofs.Grammar.{version_parts-complete}
 use Rattle.model.specs.Content.{Package, same_version, same_option}
-use Rattle.model.specs.Order.{text_cmp, precedence, version_cmp, source_cmp, package_cmp}
+use Rattle.model.specs.Order.{text_cmp, precedence, version_cmp, source_cmp, package_cmp, has_alike}
 use Rattle.lockfile.specs.Locks.{Unlinked, is_alike, unlinked_alike, unlinked_cmp, ordered_packages, locked_packages}
-use Rattle.model.specs.Sorting.{has_alike}
 use Rattle.lockfile.specs.inner.Views.{unlinked_view, unlinked_views}
 use Rattle.lockfile.specs.declared.fault.LockFault.TheVariants.{LockShape}
 use Rattle.lockfile.specs.declared.packages.UnlinkedPackage.{UnlinkedPackage}

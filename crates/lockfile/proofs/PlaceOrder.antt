@@ -6,7 +6,7 @@ use Rattle.std.specs.Ordering.{nat_cmp, is_lt, is_eq, eq_by_cmp}
 use Rattle.std.proofs.lemmas.Bool.Decides.{nat_tests}
 use Rattle.std.proofs.lemmas.Cmp.{nat_cmp_total}
 use Rattle.lockfile.specs.Locks.{ordered_places}
-use Rattle.model.specs.Sorting.{has_alike}
+use Rattle.model.specs.Order.{has_alike}
 use Rattle.lockfile.specs.declared.fault.LockFault.TheVariants.{LockShape}
 use Rattle.model.proofs.Sorting.{has_alike-agrees, ordered-run, alike-run}
 

@@ -14,8 +14,7 @@ use Rattle.std.proofs.lemmas.Option.{slice_get-map, slice_get-get_or}
 use Rattle.std.proofs.Math.ListN.{get_or-map}
 use Rattle.std.proofs.lemmas.Map.Keys.{Less-from_sorted}
 use Rattle.semver.specs.Identifiers.{parts_of}
-use Rattle.model.specs.Content.{Package, Content}
-use Rattle.model.specs.Optional.{passes}
+use Rattle.model.specs.Content.{Package, Content, passes}
 use Rattle.model.specs.Order.{text_cmp, version_cmp, source_cmp, package_cmp}
 use Rattle.lockfile.specs.Locks.{locked_packages, only, places, places_from}
 use Rattle.lockfile.specs.inner.Views.{unlinked_views, locked_view, locked_views}

@@ -13,12 +13,11 @@ use Rattle.semver.proofs.Grammar.{version_parts-sound}
 use Rattle.features.specs.Names.{is_package_name}
 use Rattle.model.specs.Content.{Content}
 use Rattle.model.specs.Outcome.{◌>>=◌}
-use Rattle.model.specs.WellFormed.{IsContent}
+use Rattle.model.specs.Order.{IsContent, has_alike, in_order}
 use Rattle.lockfile.specs.Locks.{Unlinked, version_known, text_at, checked_name, checked_version, version_read}
 use Rattle.lockfile.specs.Locks.{plain_at, dependencies_at, unlinked_of, unlinked_in, packages_in, packages_at}
 use Rattle.lockfile.specs.Locks.{unlinked_alike, unlinked_cmp, ordered_packages, locked_packages, lists_of, content_of}
 use Rattle.lockfile.specs.Locks.{content_of_table, content_of_bytes, table_of_bytes, most_bytes}
-use Rattle.model.specs.Sorting.{has_alike, in_order}
 use Rattle.lockfile.specs.inner.Search.{IsOrdered, IsRead}
 use Rattle.lockfile.specs.declared.fault.LockFault.TheVariants.{LockShape, TooLarge}
 use Rattle.lockfile.proofs.Contents.{bind-ok, ok-same, linked-content}

@@ -8,7 +8,7 @@ use Rattle.std.specs.Ordering.{is_eq, is_gt, is_lt, ordering_reverse}
 use Rattle.std.specs.declared.cmp.Ordering.TheVariants.{Less, Equal, Greater}
 use Rattle.std.proofs.lemmas.Cmp.{tied_itself, alike_right, on_total}
 use Rattle.std.proofs.lemmas.List.Elements.{filter_agree}
-use Rattle.model.specs.Sorting.{put_in, in_order}
+use Rattle.model.specs.Order.{put_in, in_order}
 use Rattle.model.proofs.Sorting.{each-put, each-weaker}
 
 -- each element is not above those after it

@@ -9,7 +9,7 @@ use Rattle.std.proofs.lemmas.List.{drop_more, take_more, map-append}
 use Rattle.std.proofs.lemmas.Option.{slice_get-map}
 use Rattle.semver.specs.Identifiers.{parts_text}
 use Rattle.model.specs.Content.{Package, Content}
-use Rattle.model.specs.Sorting.{in_order}
+use Rattle.model.specs.Order.{in_order}
 use Rattle.lockfile.specs.Spelling.{head, dependency_text, listed_cmp, at_places, list_texts, block, spelling}
 use Rattle.lockfile.specs.inner.Written.{written_of, written_cmp, written_list, written_block}
 use Rattle.lockfile.proofs.Stable.{in_order-map}

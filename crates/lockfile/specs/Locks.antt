@@ -13,11 +13,9 @@ use Rattle.semver.specs.Identifiers.{parts_text}
 use Rattle.semver.specs.Parse.{Parts, version_parts}
 use Rattle.semver.specs.declared.error.Error.{Error}
 use Rattle.model.specs.Outcome.{◌>>=◌, guard}
-use Rattle.model.specs.Optional.{of_utf8}
+use Rattle.model.specs.Content.{of_utf8, Package, Content, same_version, same_option}
 use Rattle.model.specs.Summary.{same_text}
-use Rattle.model.specs.Content.{Package, Content, same_version, same_option}
-use Rattle.model.specs.Order.{package_cmp}
-use Rattle.model.specs.Sorting.{has_alike, in_order}
+use Rattle.model.specs.Order.{package_cmp, has_alike, in_order}
 use Rattle.features.specs.Names.{is_package_name}
 use Rattle.lockfile.specs.declared.fault.LockFault.{LockFault}
 use Rattle.lockfile.specs.declared.fault.LockFault.TheVariants.{OutOfMemory, NotToml, LockVersion, LockShape, TooLarge}

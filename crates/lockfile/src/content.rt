@@ -1,7 +1,7 @@
 //! The content of a lock.
 
 ghost use Rattle.std.specs.Prelude.{◌≡◌};
-ghost use Rattle.model.specs.WellFormed.{IsContent};
+ghost use Rattle.model.specs.Order.{IsContent};
 ghost use Rattle.lockfile.specs.inner.Views.{package_views};
 
 use crate::package::Package;
@@ -15,7 +15,7 @@ pub struct LockContent {
 
 impl Model for LockContent {
     ghost use Rattle.model.specs.Content.{Content};
-    ghost use Rattle.model.specs.WellFormed.{IsContent};
+    ghost use Rattle.model.specs.Order.{IsContent};
     ghost use Rattle.lockfile.specs.inner.Views.{package_views};
 
     ghost Value = { Content };

@@ -3,10 +3,9 @@
 ghost use Rattle.std.specs.Prelude.{◌≡◌, ◌≤◌, ℕ, List, length, Ok};
 ghost use Rattle.std.specs.List.{All};
 ghost use Rattle.model.specs.Content.{Content};
-ghost use Rattle.model.specs.WellFormed.{IsContent};
+ghost use Rattle.model.specs.Order.{IsContent};
 ghost use Rattle.lockfile.specs.Locks.{content_of_bytes, content_of_table, most_bytes, table_of_bytes};
-ghost use Rattle.lockfile.specs.Spelling.{spelling};
-ghost use Rattle.lockfile.specs.Table.{IsWritable, table_of};
+ghost use Rattle.lockfile.specs.Spelling.{spelling, IsWritable, table_of};
 
 /// What a lock says is a content: its packages are in package order, no two alike in name, version and source, and each
 /// list has places of it, each once.

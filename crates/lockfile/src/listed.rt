@@ -1,7 +1,7 @@
 //! The packages of one list, in the order in which they are written.
 
 ghost use Rattle.std.specs.Prelude.{◌≡◌, IfOk, option_map, slice_get};
-ghost use Rattle.model.specs.Sorting.{in_order};
+ghost use Rattle.model.specs.Order.{in_order};
 ghost use Rattle.lockfile.specs.Spelling.{listed_source_cmp, at_places};
 ghost use Rattle.lockfile.specs.inner.Written.{written_cmp, entry_views, listed_view, listed_views};
 

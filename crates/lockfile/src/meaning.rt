@@ -10,7 +10,7 @@ ghost use Rattle.model.specs.Outcome.{Gives};
 ghost use Rattle.lockfile.specs.Locks.{wants_memory, place_meant, places_meant, list_of, lists_of, only, places};
 ghost use Rattle.lockfile.specs.Locks.{locked_packages};
 ghost use Rattle.lockfile.specs.inner.Search.{named_cmp, versioned_cmp, wanted_cmp, is_named, is_wanted, IsOrdered};
-ghost use Rattle.model.specs.Optional.{passes};
+ghost use Rattle.model.specs.Content.{passes};
 ghost use Rattle.lockfile.specs.inner.Search.{HasNoSpace};
 ghost use Rattle.features.specs.Views.{text_views};
 ghost use Rattle.lockfile.specs.inner.Views.{package_view, unlinked_views, locked_views, list_views};

@@ -5,7 +5,7 @@ ghost use Rattle.std.specs.Prelude.{string_bytes};
 ghost use Rattle.std.specs.List.{filter};
 ghost use Rattle.semver.specs.Identifiers.{parts_of, parts_text};
 ghost use Rattle.lockfile.specs.inner.Search.{IsOrdered, is_wanted};
-ghost use Rattle.model.specs.Optional.{passes};
+ghost use Rattle.model.specs.Content.{passes};
 ghost use Rattle.lockfile.specs.Spelling.{named, versioned, longest_form, dependency_text};
 ghost use Rattle.lockfile.specs.inner.Views.{package_view, package_views};
 ghost use Rattle.lockfile.specs.inner.Written.{written_of, entry_view, entry_views, listed_view};

@@ -8,8 +8,7 @@ use Rattle.model.specs.Candidates.{Record, as_candidate}
 use Rattle.model.specs.Vertices.{version_of, owner_brings}
 use Rattle.manifest.specs.Manifests.{ManifestView}
 use Rattle.catalogue.specs.Problems.{problem_in}
-use Rattle.catalogue.specs.Stores.{CatalogueView, candidates_at, record_at, rows_by_name}
-use Rattle.catalogue.specs.Views.{Said, said}
+use Rattle.catalogue.specs.Stores.{CatalogueView, candidates_at, record_at, rows_by_name, Said, said}
 use Rattle.catalogue.proofs.Lookups.{candidate_found}
 
 none_brings : (o : Option Record) → None ≡ option_map said o → nothing ≡ brings_of (option_map as_candidate o)

@@ -51,8 +51,6 @@ module _ {V S : Type 0} (old : Names V S) (d : List ℕ) (v : V) where
       by true f None g =
           let no : false ≡ true = sym (ap is_some (named_alike e f ∙ g)) ∙ some in cc
 
--- ---- entries
-
 -- ---- numbers
 
 pub gone_put : {S : Type 0} (q : Problem) (old new : Names ℕ S) (n : ℕ) (x : Dependency) (called : List ℕ)

@@ -5,9 +5,8 @@ use Rattle.std.specs.List.{All}
 use Rattle.std.specs.declared.cmp.Ordering.TheVariants.{Less}
 use Rattle.std.proofs.lemmas.List.{take_rest}
 use Rattle.semver.specs.Eval.{precedence_cmp}
-use Rattle.semver.specs.EvalViews.{matches_views}
 use Rattle.semver.specs.Identifiers.{parts_of}
-use Rattle.semver.specs.Parse.{Held, Parts}
+use Rattle.semver.specs.Parse.{Parts}
 use Rattle.semver.specs.declared.Version.{Version}
 use Rattle.model.specs.Axioms.{is_lower}
 use Rattle.model.specs.Selection.{Class, class_of}

@@ -17,7 +17,7 @@ use Rattle.model.specs.Selection.{Class, patch, minor, major, class_of}
 use Rattle.model.specs.Vertices.{same_class}
 use Rattle.model.proofs.Orders.{class_above, not_lower_itself}
 use Rattle.model.proofs.Same.{class-same}
-use Rattle.catalogue.specs.Views.{said, said_by}
+use Rattle.catalogue.specs.Stores.{said, said_by}
 use Rattle.catalogue.specs.declared.candidate.Candidate.{Candidate}
 use Rattle.lookups.specs.inner.Ranges.{AreRising, is_above, is_below, is_of}
 

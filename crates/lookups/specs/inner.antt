@@ -4,6 +4,7 @@ pub mod Views
 pub mod CauseViews
 pub mod Sets
 pub mod TermViews
+pub mod Symbolic
 pub mod Needs
 pub mod ByName
 pub mod Numbers

@@ -2,7 +2,7 @@
 
 ghost use Rattle.std.specs.Prelude.{◌≡◌};
 ghost use Rattle.model.specs.Causes.{kind_of};
-ghost use Rattle.vertices.specs.Kinds.{kind_view};
+ghost use Rattle.vertices.specs.Texts.{kind_view};
 ghost use Rattle.lookups.specs.inner.CauseViews.{cause_view};
 
 use classes::Class;

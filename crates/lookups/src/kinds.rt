@@ -16,7 +16,7 @@
 
 ghost use Rattle.std.specs.Prelude.{◌≡◌, option_map, IfOk};
 ghost use Rattle.model.specs.inner.Instances.{asking_in, cause_in, entry_in, feature_in, target_in, weak_in};
-ghost use Rattle.vertices.specs.Kinds.{kind_view};
+ghost use Rattle.vertices.specs.Texts.{kind_view};
 ghost use Rattle.lookups.specs.inner.CauseViews.{cause_view};
 ghost use Rattle.lookups.specs.inner.TermViews.{term_views};
 ghost use Rattle.lookups.specs.inner.NumbersViews.{problem_of};

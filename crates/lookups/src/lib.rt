@@ -8,11 +8,13 @@
 //! (`matched_range`), and the others at the ends (`unmatched_ends`). Where a name has none, the classes in which it
 //! matches some stand in one piece among all that the name has (`class_range`, `all_classes`).
 //!
-//! Terms whose names lie in a derivation, in the manifest or in the index are `Term` (`term.rt`), and the one cause that
+//! Terms whose names lie in a derivation, in the manifest or in the index are `Term` (`term.rt`), and the one cause
+//! that
 //! the terms of a step can have is read off them (`kinds.rt`).
 //!
 //! A layer above may rely on this: each look-up gives exactly what the model says (`owner_brings` and the like),
-//! borrowed from the manifest or the index, and takes no memory but for a list of classes; an owner that is no candidate
+//! borrowed from the manifest or the index, and takes no memory but for a list of classes; an owner that is no
+//! candidate
 //! brings nothing. If terms are those of an instance of the kind at all, it is that of the cause found.
 #![tactic(auto)]
 
@@ -34,6 +36,7 @@ mod owners;
 mod problem;
 mod ranges;
 mod states;
+mod symbolic;
 mod term;
 mod wants_feature;
 
@@ -49,4 +52,5 @@ pub use owners::{brings, dependencies_of, dependency_at, entries_of, is_needed};
 pub use problem::Problem;
 pub use ranges::{above, below, class_candidates, class_versions, of_class};
 pub use states::StateSet;
+pub use symbolic::{SymbolicTerm, symbolic_terms};
 pub use term::Term;

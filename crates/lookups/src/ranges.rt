@@ -4,8 +4,7 @@ ghost use Rattle.std.specs.Prelude.{◌≡◌, ◌≤◌, true, false, not, leng
 ghost use Rattle.std.specs.List.Sorted.{IsPartitionPoint};
 ghost use Rattle.semver.specs.Identifiers.{parts_of};
 ghost use Rattle.classes.specs.Classes.{class_view};
-ghost use Rattle.catalogue.specs.Stores.{candidates_at};
-ghost use Rattle.catalogue.specs.Views.{said, said_by};
+ghost use Rattle.catalogue.specs.Stores.{candidates_at, said, said_by};
 ghost use Rattle.lookups.specs.inner.Ranges.{AreRising, is_above, is_below, is_of};
 
 use catalogue::{Candidate, Catalogue};

@@ -1,7 +1,7 @@
 -- What a manifest brings is of names that are names, and it has no more dependencies than there are numbers of 32 bits.
 use Rattle.std.proofs.Common.{◌≡◌, ℕ, suc, ◌+◌, ◌*◌, ◌≤◌, Bool, true, false, not, ◌||◌, cond, List, [], ◌∷◌, ◌++◌}
 use Rattle.std.proofs.Common.{length}
-use Rattle.std.proofs.Common.{map, nat_le, codes, Option, Some, None, option_map, Result, Ok, Err, IfOk, IfSome, All}
+use Rattle.std.proofs.Common.{map, codes, Option, Some, None, option_map, Result, Ok, Err, IfOk, IfSome, All}
 use Rattle.std.proofs.Common.{refl}
 use Rattle.std.proofs.Common.{arith, length-append, Ordering, Less, Equal, Greater, nat_cmp, subst}
 use Rattle.std.proofs.lemmas.Bool.{leb-true}
@@ -10,30 +10,28 @@ use Rattle.std.specs.Cmp.Lexicographic.{slice_cmp}
 use Rattle.std.specs.Option.{ok_or}
 use Rattle.std.specs.Ordering.{match_ordering}
 use Rattle.std.specs.Str.{is_utf8}
-use Rattle.semver.specs.Parse.{Held}
-use Rattle.toml.specs.Data.{Data, string, integer, float, boolean, datetime, array, table, as_array, as_table}
+use Rattle.toml.specs.Data.{Data, string, integer, float, boolean, datetime, array, table, as_array}
 use Rattle.toml.specs.Data.{get_member}
 use Rattle.toml.specs.Data.{Items, no_items, item, Members, no_members, member}
 use Rattle.toml.specs.Parse.{parse_document}
-use Rattle.model.specs.Optional.{of_utf8}
+use Rattle.model.specs.Content.{of_utf8}
 use Rattle.model.specs.Outcome.{◌>>=◌, guard}
 use Rattle.model.specs.Summary as model
 use Rattle.model.specs.Summary.{Table, Entry}
-use Rattle.model.specs.Tables.{DepName, TableFault, table_of}
+use Rattle.model.specs.Tables.{TableFault, table_of}
 use Rattle.model.proofs.Lists.{all_none, all_cons, all_first, all_rest}
 use Rattle.tables.proofs.Shorter.{If}
 use Rattle.tables.proofs.Sizes.{size, members_size, document-few}
-use Rattle.features.specs.Entries.{entry_of}
-use Rattle.features.specs.Names.{is_package_name, is_feature_name}
+use Rattle.features.specs.Names.{entry_of, is_package_name, is_feature_name}
 use Rattle.features.specs.inner.Valid.{IsPackageName, IsFeatureName, IsValidEntry, IsValidRow, IsValidDependency}
 use Rattle.features.specs.inner.Valid.{BringsValid}
 use Rattle.features.specs.declared.dependency.DependencyKind.{DependencyKind}
 use Rattle.features.specs.declared.dependency.DependencyKind.TheVariants.{Normal, Dev, Build}
 use Rattle.features.proofs.ValidLemmas.{entry-valid, built-valid}
 use Rattle.manifest.specs.Values as values
-use Rattle.manifest.specs.Values.{Shaped, wanted, if_there, or_absent, text_of, flag_of, has_key, one_of, either_at}
+use Rattle.manifest.specs.Values.{Shaped, wanted, if_there, or_absent, text_of, flag_of, has_key, one_of}
 use Rattle.manifest.specs.Values.{package_name_of, feature_name_of}
-use Rattle.manifest.specs.Dependencies.{SourceView, registry, DependencyShapeView, bare, inherited, unsupported_in}
+use Rattle.manifest.specs.Dependencies.{DependencyShapeView, bare, inherited, unsupported_in}
 use Rattle.manifest.specs.Dependencies.{source_of, real_name_of, named_feature, feature_names, feature_list}
 use Rattle.manifest.specs.Dependencies.{default_features_in, may_be_optional, dependency_in, described, dependency_of}
 use Rattle.manifest.specs.Dependencies.{dependencies_in, part_of, section_at, section_of, sections_of, targets_in}
@@ -43,10 +41,9 @@ use Rattle.manifest.specs.Shapes.{strong, root_entry, entries_in, feature_of, fe
 use Rattle.manifest.specs.Shapes.{all_dependencies}
 use Rattle.manifest.specs.Shapes.{ShapeView, shape_of}
 use Rattle.manifest.specs.Manifests.{ManifestView, sources_allowed, requirement_of, dependency_with, dependencies_of}
-use Rattle.manifest.specs.Manifests.{dep_name, table_or_fault, features_with, table_of_bytes, manifest_of, limit}
-use Rattle.manifest.specs.Manifests.{manifest_of_bytes}
+use Rattle.manifest.specs.Manifests.{dep_name, table_or_fault, features_with, manifest_of, limit}
 use Rattle.manifest.specs.declared.fault.ManifestFault.{ManifestFault}
-use Rattle.manifest.specs.declared.fault.ManifestFault.TheVariants.{Shape, TooLarge, NotToml, UnsupportedSource}
+use Rattle.manifest.specs.declared.fault.ManifestFault.TheVariants.{Shape, UnsupportedSource}
 use Rattle.manifest.specs.declared.fault.Part.{Part}
 use Rattle.manifest.specs.declared.fault.Part.TheVariants as part
 use Rattle.manifest.specs.declared.fault.Unsupported.TheVariants.{Workspace}

@@ -1,7 +1,7 @@
 pub use Rattle.model.specs.Outcome
 pub use Rattle.model.specs.Summary
 pub use Rattle.features.specs.Views
-pub use Rattle.classes.specs.RustVersions
+pub use Rattle.classes.specs.Classes
 pub mod Faults
 pub mod Values
 pub mod Packages

@@ -7,7 +7,7 @@ use Rattle.toml.specs.Data.{Data, as_str, as_array, as_table, get_member, Member
 use Rattle.semver.specs.Parse.{Parts, version_parts}
 use Rattle.semver.specs.declared.error.Error.{Error}
 use Rattle.model.specs.Outcome.{◌>>=◌}
-use Rattle.classes.specs.RustVersions.{rust_version_of}
+use Rattle.classes.specs.Classes.{rust_version_of}
 use Rattle.tables.specs.Rows.{has_rows}
 use Rattle.manifest.specs.Values.{Shaped, wanted, or_absent, text_of, table_of, has_key, package_name_of}
 use Rattle.manifest.specs.declared.fault.ManifestFault.TheVariants.{Shape}

@@ -4,7 +4,7 @@ use Rattle.std.specs.Prelude.{ℕ, Bool, List, [], ◌∷◌, ◌++◌, Option, 
 use Rattle.toml.specs.Data.{Data, as_array, get_member, Items, no_items, item, Members, no_members, member}
 use Rattle.model.specs.Outcome.{◌>>=◌}
 use Rattle.model.specs.Summary.{Entry, feature, dependency, dependency_feature, weak_feature, Table}
-use Rattle.features.specs.Entries.{entry_of}
+use Rattle.features.specs.Names.{entry_of}
 use Rattle.manifest.specs.Values.{Shaped, wanted, or_absent, text_of, table_of, feature_name_of}
 use Rattle.manifest.specs.Packages.{PackageView, package_of, workspace_of, is_written}
 use Rattle.manifest.specs.Dependencies.{DependencyShapeView, sections_of, targets_of}

@@ -6,7 +6,7 @@ ghost use Rattle.toml.specs.View.{view, table_view};
 ghost use Rattle.semver.specs.Grammar.{IsValid};
 ghost use Rattle.semver.specs.Identifiers.{parts_of};
 ghost use Rattle.semver.specs.Parse.{version_parts};
-ghost use Rattle.classes.specs.RustVersions.{rust_version_view};
+ghost use Rattle.classes.specs.Classes.{rust_version_view};
 ghost use Rattle.model.specs.Outcome.{Gives};
 ghost use Rattle.manifest.specs.Faults.{wants_memory};
 ghost use Rattle.manifest.specs.Packages.{is_inherited, name_of, version_of_text, version_of, rust_version_in};

@@ -6,7 +6,7 @@ ghost use Rattle.semver.specs.Identifiers.{parts_of};
 ghost use Rattle.semver.specs.Parse.{memory_error, req_of};
 ghost use Rattle.toml.specs.View.{table_view};
 ghost use Rattle.model.specs.Outcome.{Gives, guard};
-ghost use Rattle.classes.specs.RustVersions.{rust_version_view};
+ghost use Rattle.classes.specs.Classes.{rust_version_view};
 ghost use Rattle.features.specs.inner.Valid.{BringsValid};
 ghost use Rattle.features.specs.Views.{dependency_view, dependency_views, summary_view};
 ghost use Rattle.manifest.specs.Faults.{wants_memory};
@@ -44,7 +44,7 @@ impl Model for Manifest {
     ghost use Rattle.std.specs.Prelude.{option_map};
     ghost use Rattle.semver.specs.Grammar.{IsValid};
     ghost use Rattle.semver.specs.Identifiers.{parts_of};
-    ghost use Rattle.classes.specs.RustVersions.{rust_version_view};
+    ghost use Rattle.classes.specs.Classes.{rust_version_view};
     ghost use Rattle.features.specs.inner.Valid.{BringsValid};
     ghost use Rattle.features.specs.Views.{summary_view};
     ghost use Rattle.manifest.specs.Manifests.{ManifestView};
@@ -120,7 +120,8 @@ impl Manifest {
     }
 }
 
-/// What a manifest brings is of names that are names, and it has no more dependencies than there are numbers of 32 bits.
+/// What a manifest brings is of names that are names, and it has no more dependencies than there are numbers of 32
+/// bits.
 pub fn manifests_bring_valid_parts(manifest: &Manifest)
     ensures { BringsValid manifest.now.brings }
 {

@@ -3,7 +3,7 @@
 ghost use Rattle.std.specs.Prelude.{◌≡◌, IfOk, Some, option_and_then, option_copied, option_map};
 ghost use Rattle.toml.specs.Data.{as_str};
 ghost use Rattle.toml.specs.View.{table_view, view};
-ghost use Rattle.features.specs.Entries.{entry_of};
+ghost use Rattle.features.specs.Names.{entry_of};
 ghost use Rattle.features.specs.EntryViews.{entry_view};
 ghost use Rattle.manifest_faults.specs.inner.Reasons.{dependency_in, entry_at, entry_in, feature_in, is_dependency};
 ghost use Rattle.manifest_faults.specs.inner.Reasons.{is_no_feature, is_taken, is_taken_by, is_uncalled, is_unknown};

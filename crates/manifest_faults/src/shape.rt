@@ -1,8 +1,7 @@
 //! Whether values and texts are what they have to be.
 
 ghost use Rattle.std.specs.Prelude.{◌≡◌, ◌≢◌, true, IfOk, is_err, is_none, not, option_and_then, option_map};
-ghost use Rattle.features.specs.Entries.{entry_of};
-ghost use Rattle.features.specs.Names.{is_feature_name, is_package_name};
+ghost use Rattle.features.specs.Names.{entry_of, is_feature_name, is_package_name};
 ghost use Rattle.toml.specs.Data.{as_table};
 ghost use Rattle.toml.specs.View.{table_view, view};
 ghost use Rattle.manifest.specs.Packages.{is_inherited};

@@ -4,7 +4,7 @@ use Rattle.std.specs.List.{AllByRecursion}
 use Rattle.std.proofs.lemmas.Option.{none-some}
 use Rattle.model.specs.Content.{Problem, Content}
 use Rattle.model.specs.Selection.{Class, class_of, IsValidSelection}
-use Rattle.model.specs.WellFormed.{IsCatalogue}
+use Rattle.model.specs.Order.{IsCatalogue}
 use Rattle.model.specs.Vertices.{Owner, the_root, version_of, dep, feat}
 use Rattle.model.specs.Axioms.{Kind, Term, AreApart, IsInstance, without_full}
 use Rattle.model.specs.Axioms.IsInstance.{root_is, needed, has_target, has_its_feature, wants_by_list, wants_by_entry}

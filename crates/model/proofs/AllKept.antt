@@ -6,11 +6,11 @@ use Rattle.std.specs.List.{All, AllPairs, list_any}
 use Rattle.std.proofs.lemmas.List.Kept.{AllPairs-cons}
 use Rattle.std.proofs.lemmas.Option.{none-some, same_Some}
 use Rattle.model.specs.Summary.{Dependency}
-use Rattle.model.specs.Facts.{Fact, here, enabled}
+use Rattle.model.specs.Selection.{Fact, here, enabled}
 use Rattle.model.specs.Content.{Problem}
 use Rattle.model.specs.Vertices.{Owner, same_owner, owner_brings}
 use Rattle.model.specs.Axioms.{IsOwner}
-use Rattle.model.specs.Stands.{IsReachedFact}
+use Rattle.model.specs.Walk.{IsReachedFact}
 use Rattle.model.specs.inner.ContentOf.{Kept, IsTargetOf, AreKept}
 use Rattle.model.proofs.Same.{owner-same, owner-refl}
 use Rattle.model.proofs.Lists.{in_none, in_cons, in_first, in_rest, any_of, to_any, all_none, all_cons, pairs_none}

@@ -14,8 +14,7 @@ use Rattle.std.proofs.lemmas.List.Sorted.{Contains-permutation}
 use Rattle.model.proofs.Permuted.{pairs-permutation, rising-same}
 use Rattle.semver.specs.OrderLaws.{pre_total}
 use Rattle.semver.specs.Parse.{Parts}
-use Rattle.model.specs.Order.{precedence}
-use Rattle.model.specs.Sorting.{put_in}
+use Rattle.model.specs.Order.{precedence, put_in}
 use Rattle.model.specs.Candidates.{RustVersion, Record, IsOlder, IsApart, age_cmp, oldest_first, fits, locked_ones}
 use Rattle.model.specs.Candidates.{fitting_ones, other_ones, by_preference}
 use Rattle.model.proofs.Lists.{all_cons, all_first, all_rest, pairs_none, pairs_one, pairs_rest, pairs_all}

@@ -6,8 +6,7 @@ use Rattle.std.proofs.lemmas.Bool.{and_from, eqb-true, eq-eqb, false_from_ne_tru
 use Rattle.semver.specs.Parse.{Parts}
 use Rattle.model.specs.Summary.{Dependency, Entry, feature, dependency, dependency_feature, weak_feature}
 use Rattle.model.specs.Summary.{asked_of_target, same_text}
-use Rattle.model.specs.Content.{Problem}
-use Rattle.model.specs.Optional.{passes}
+use Rattle.model.specs.Content.{Problem, passes}
 use Rattle.model.specs.Selection.{Class, class_of}
 use Rattle.model.specs.Vertices.{Owner, version_of, Vertex, feat, same_vertex, class_candidates}
 use Rattle.model.specs.Axioms.{Term, Kind, Target, WantsFeature, NewestListed, WeakFeature, is_lower, matched, IsNeeded}

@@ -7,7 +7,7 @@ use Rattle.semver.specs.EvalViews.{matches_views}
 use Rattle.model.specs.Summary.{Dependency}
 use Rattle.model.specs.Content.{Problem, Content, Candidate, candidates_of}
 use Rattle.model.specs.Selection.{Class, IsValidSelection}
-use Rattle.model.specs.WellFormed.{IsCatalogue}
+use Rattle.model.specs.Order.{IsCatalogue}
 use Rattle.model.specs.Vertices.{Owner, version_of, Vertex, pkg, dep, State, absent, present, version, in_class}
 use Rattle.model.specs.Axioms.{IsOwner}
 use Rattle.model.specs.Walk.{first_match, pick, Picks, IsWalk}

@@ -8,13 +8,13 @@ use Rattle.std.proofs.lemmas.List.Elements.{Contains-append_left, Contains-appen
 use Rattle.std.proofs.lemmas.Option.{none-some, same_Some, slice_get_within}
 use Rattle.model.specs.Summary.{Summary, Dependency, Entry, Table, feature, dependency, dependency_feature}
 use Rattle.model.specs.Summary.{weak_feature, entries_at, asked_of_target, same_text}
-use Rattle.model.specs.Facts.{Fact, here, on, enabled, Brings, Lists}
-use Rattle.model.specs.Facts.Holds.{starts, arrives, root_needs, needs, asks, root_wants, turns_on, enables}
-use Rattle.model.specs.Facts.Holds.{enables_for, wants, wants_weakly}
+use Rattle.model.specs.Selection.{Fact, here, on, enabled, Brings, Lists}
+use Rattle.model.specs.Selection.Holds.{starts, arrives, root_needs, needs, asks, root_wants, turns_on, enables}
+use Rattle.model.specs.Selection.Holds.{enables_for, wants, wants_weakly}
 use Rattle.model.specs.Content.{Problem, Candidate, candidates_of}
 use Rattle.model.specs.Vertices.{Owner, the_root, version_of, same_owner, owner_brings}
 use Rattle.model.specs.Axioms.{IsOwner}
-use Rattle.model.specs.Stands.{IsReachedFact}
+use Rattle.model.specs.Walk.{IsReachedFact}
 use Rattle.model.proofs.Same.{both, text-same, text-refl, owner-same, owner-refl}
 use Rattle.model.proofs.Lists.{in_none, in_cons, in_first, in_rest, to_map, to_any, any_of}
 

@@ -13,8 +13,7 @@ use Rattle.semver.specs.OrderLaws.{pre_total}
 use Rattle.semver.specs.Parse.{Parts}
 use Rattle.model.specs.Summary.{KnowsFeatures, same_text}
 use Rattle.model.specs.Content.{Package, Content, Candidate, Problem, candidates_of}
-use Rattle.model.specs.Order.{text_cmp, precedence, version_cmp, source_cmp, package_cmp}
-use Rattle.model.specs.WellFormed.{IsContent, IsCatalogue}
+use Rattle.model.specs.Order.{text_cmp, precedence, version_cmp, source_cmp, package_cmp, IsContent, IsCatalogue}
 use Rattle.std.proofs.lemmas.List.Elements.{All-contains}
 use Rattle.model.proofs.Candidates.{precedence_total}
 use Rattle.model.proofs.Lists.{in_none, in_cons, all_get, all_first, all_rest, pairs_get, pairs_first, pairs_rest}

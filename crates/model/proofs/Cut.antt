@@ -8,19 +8,18 @@ use Rattle.semver.specs.Parse.{Parts}
 use Rattle.semver.specs.EvalViews.{matches_views}
 use Rattle.model.specs.Summary.{Dependency, Entry, feature, dependency, dependency_feature, weak_feature, entries_at}
 use Rattle.model.specs.Summary.{has_feature, same_text}
-use Rattle.model.specs.Facts.{Fact, here, on, enabled, Brings, Lists}
-use Rattle.model.specs.Facts.Holds.{starts, arrives, root_needs, needs, asks, root_wants, turns_on, enables}
-use Rattle.model.specs.Facts.Holds.{enables_for, wants, wants_weakly}
+use Rattle.model.specs.Selection.{Fact, here, on, enabled, Brings, Lists, Class, patch, minor, major, class_of}
+use Rattle.model.specs.Selection.{IsValidSelection, IsFact, IsRootAt, HasTarget, IsReached}
+use Rattle.model.specs.Selection.Holds.{starts, arrives, root_needs, needs, asks, root_wants, turns_on, enables}
+use Rattle.model.specs.Selection.Holds.{enables_for, wants, wants_weakly}
 use Rattle.model.specs.Content.{Problem, Content, Package, Candidate, candidates_of, candidate_at, candidate_of}
 use Rattle.model.specs.Content.{if_checksum, same_option, is_root, brings_of, summary_if, summary_of, summary_at}
 use Rattle.model.specs.Content.{serves, serves_if, last_serving, list_if, target_of}
-use Rattle.model.specs.Selection.{Class, patch, minor, major, class_of, IsValidSelection, IsFact, IsRootAt, HasTarget}
-use Rattle.model.specs.Selection.{IsReached}
 use Rattle.model.specs.Selection.IsReached.{root, listed}
-use Rattle.model.specs.WellFormed.{IsCatalogue}
+use Rattle.model.specs.Order.{IsCatalogue}
 use Rattle.model.specs.Vertices.{Owner, the_root, version_of, Vertex, pkg, dep, State, version, in_class, owner_brings}
 use Rattle.model.specs.Axioms.{is_lower}
-use Rattle.model.specs.Stands.{name_of, IsLink, StandsFor}
+use Rattle.model.specs.Walk.{name_of, IsLink, StandsFor}
 use Rattle.model.specs.inner.Search.{IsUnbroken, LeadsTo, IsReachedFact, IsPresent}
 use Rattle.model.proofs.Same.{both, text-refl, text-same}
 use Rattle.model.proofs.Inner.{version_inner, class_inner, name_in, version_in}

@@ -3,15 +3,14 @@ use Rattle.std.proofs.Common.{◌≡◌, ◌↔◌, ℕ, List, false, Some, slic
 use Rattle.std.proofs.lemmas.Option.{same_Some}
 use Rattle.semver.specs.Parse.{Parts}
 use Rattle.model.specs.Summary.{Dependency, dependency_feature}
-use Rattle.model.specs.Facts.{Fact, here, on, enabled, Brings, Lists}
-use Rattle.model.specs.Facts.Holds.{starts, arrives, root_needs, needs, asks, root_wants, turns_on, enables}
-use Rattle.model.specs.Facts.Holds.{enables_for, wants, wants_weakly}
+use Rattle.model.specs.Selection.{Fact, here, on, enabled, Brings, Lists, class_of, IsFact}
+use Rattle.model.specs.Selection.Holds.{starts, arrives, root_needs, needs, asks, root_wants, turns_on, enables}
+use Rattle.model.specs.Selection.Holds.{enables_for, wants, wants_weakly}
 use Rattle.model.specs.Content.{Problem, Content, Package, is_root}
-use Rattle.model.specs.Selection.{class_of, IsFact}
-use Rattle.model.specs.WellFormed.{IsCatalogue}
+use Rattle.model.specs.Order.{IsCatalogue}
 use Rattle.model.specs.Vertices.{Owner, the_root, version_of, Vertex, root, pkg, dep, feat, ask, State, version}
 use Rattle.model.specs.Vertices.{in_class, owner_brings}
-use Rattle.model.specs.Stands.{name_of, StandsFor}
+use Rattle.model.specs.Walk.{name_of, StandsFor}
 use Rattle.model.specs.inner.Search.{IsUnbroken, LeadsTo, IsReachedFact, IsOn, IsReachedVertex, AssignsReached}
 use Rattle.model.specs.inner.Assignment.{Locks, IsOwnerAt, Has, Assigns}
 use Rattle.model.proofs.Reached.{root_present, asking, chosen_version, reached_says, reached_met}

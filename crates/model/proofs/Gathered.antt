@@ -10,12 +10,11 @@ use Rattle.std.proofs.lemmas.List.Kept.{AllPairs-cons}
 use Rattle.std.proofs.lemmas.List.Sorted.{IsPermutation-sym, Contains-permutation}
 use Rattle.std.proofs.lemmas.Option.{none-some, same_Some, slice_get-map}
 use Rattle.model.specs.Summary.{Dependency, same_text}
-use Rattle.model.specs.Facts.{enabled, Brings}
+use Rattle.model.specs.Selection.{enabled, Brings}
 use Rattle.model.specs.Content.{Package, Problem, candidates_of, candidate_at, is_root, same_version}
-use Rattle.model.specs.Order.{package_cmp}
-use Rattle.model.specs.WellFormed.{IsContent, IsCatalogue}
+use Rattle.model.specs.Order.{package_cmp, IsContent, IsCatalogue}
 use Rattle.model.specs.Vertices.{Owner, the_root, version_of, same_owner, owner_brings}
-use Rattle.model.specs.Stands.{name_of, IsReachedFact, IsLink, StandsFor}
+use Rattle.model.specs.Walk.{name_of, IsReachedFact, IsLink, StandsFor}
 use Rattle.model.specs.inner.ContentOf.{Kept, package_of, in_package_order, places_from, content_of, IsTargetOf}
 use Rattle.model.specs.inner.ContentOf.{AreKept}
 use Rattle.model.proofs.Lists.{in_none, in_cons, in_first, in_rest, to_any, any_of, all_get, all_none, all_cons}

@@ -2,10 +2,10 @@
 use Rattle.std.proofs.Common.{◌≡◌, ℕ, List, Bool, true, false, cond, Option, Some, None, slice_get, Contains, ◌↔◌}
 use Rattle.std.proofs.Common.{IsSome, refl, ap, subst}
 use Rattle.model.specs.Summary.{Summary, Dependency, has_feature}
-use Rattle.model.specs.Facts.{Fact, Holds, on, enabled}
+use Rattle.model.specs.Selection.{Fact, Holds, on, enabled, IsValidSelection, IsOther, IsPlace, IsReached, IsRootAt}
+use Rattle.model.specs.Selection.{HasTarget}
 use Rattle.model.specs.Content.{Problem, with_candidates, Content, Package, Candidate, candidate_of, is_root, brings_of}
 use Rattle.model.specs.Content.{summary_if, summary_at}
-use Rattle.model.specs.Selection.{IsValidSelection, IsOther, IsPlace, IsReached, IsRootAt, HasTarget}
 use Rattle.model.specs.Selection.IsReached.{root, listed}
 
 module _ (q : Problem) (cs : List (List ℕ × List Candidate)) (content : Content)

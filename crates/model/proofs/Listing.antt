@@ -9,8 +9,7 @@ use Rattle.std.proofs.lemmas.List.Kept.{AllPairs-cons}
 use Rattle.semver.specs.Parse.{Parts}
 use Rattle.model.specs.Summary.{Dependency, Entry, feature, dependency, dependency_feature, weak_feature, Table}
 use Rattle.model.specs.Summary.{entries_at, has_feature, asked_of_target, same_text}
-use Rattle.model.specs.Content.{Problem, Candidate, candidates_of}
-use Rattle.model.specs.Optional.{passes}
+use Rattle.model.specs.Content.{Problem, Candidate, candidates_of, passes}
 use Rattle.model.specs.Selection.{Class, class_of}
 use Rattle.model.specs.Vertices.{Owner, the_root, version_of, in_that_class, owner_brings, classes_of, class_candidates}
 use Rattle.model.specs.Axioms.{IsOwner, HasEntry, HasFeatVertex, RootAsks}

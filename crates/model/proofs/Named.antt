@@ -7,8 +7,7 @@ use Rattle.std.proofs.lemmas.Option.{none-some}
 use Rattle.semver.specs.Parse.{Parts}
 use Rattle.model.specs.Summary.{Dependency, Entry, feature, dependency, dependency_feature, weak_feature, Table}
 use Rattle.model.specs.Summary.{entries_at, has_feature, asked_of_target, same_text}
-use Rattle.model.specs.Content.{Candidate, Problem, candidates_of, candidate_at, brings_of}
-use Rattle.model.specs.Optional.{passes}
+use Rattle.model.specs.Content.{Candidate, Problem, candidates_of, candidate_at, brings_of, passes}
 use Rattle.model.specs.Selection.{Class, class_of}
 use Rattle.model.specs.Vertices.{Owner, the_root, version_of, same_class, in_that_class, owner_brings, matching}
 use Rattle.model.specs.Vertices.{dep_classes, class_candidates}

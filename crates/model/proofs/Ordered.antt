@@ -14,11 +14,9 @@ use Rattle.std.proofs.lemmas.List.Sorted.{IsPermutation-trans, IsPermutation-mid
 use Rattle.std.proofs.lemmas.List.Sorted.{Contains-permutation}
 use Rattle.semver.specs.Identifiers.{parts_text}
 use Rattle.model.specs.Content.{Problem, Candidate, candidates_of}
-use Rattle.model.specs.Order.{text_cmp, precedence, version_cmp, source_cmp, package_cmp}
-use Rattle.model.specs.WellFormed.{IsCatalogue}
+use Rattle.model.specs.Order.{text_cmp, precedence, version_cmp, source_cmp, package_cmp, IsCatalogue, put_in}
 use Rattle.model.specs.Vertices.{Owner, the_root, version_of}
 use Rattle.model.specs.Axioms.{IsOwner}
-use Rattle.model.specs.Sorting.{put_in}
 use Rattle.model.specs.inner.ContentOf.{Kept, package_of, kept_cmp, in_package_order}
 use Rattle.model.proofs.Contents.{each_version_tied}
 use Rattle.model.proofs.Lists.{all_cons, all_first, all_rest, pairs_none, pairs_one, pairs_rest, pairs_all}

@@ -7,12 +7,12 @@ use Rattle.std.proofs.lemmas.Option.{none-some, same_Some, slice_get_within}
 use Rattle.semver.specs.Parse.{Parts}
 use Rattle.semver.specs.EvalViews.{matches_views}
 use Rattle.model.specs.Summary.{Dependency, same_text}
-use Rattle.model.specs.Facts.{here, enabled}
-use Rattle.model.specs.Facts.Holds.{starts}
+use Rattle.model.specs.Selection.{here, enabled, Class, class_of, IsValidSelection, IsFact, IsRootAt, IsOther}
+use Rattle.model.specs.Selection.{HasTarget}
+use Rattle.model.specs.Selection.Holds.{starts}
 use Rattle.model.specs.Content.{Problem, Content, Package, Candidate, candidates_of, candidate_at, candidate_of}
 use Rattle.model.specs.Content.{if_checksum, same_option, same_version, is_root, brings_of, summary_if, summary_at}
 use Rattle.model.specs.Content.{serves, serves_if, list_if}
-use Rattle.model.specs.Selection.{Class, class_of, IsValidSelection, IsFact, IsRootAt, IsOther, HasTarget}
 use Rattle.model.specs.Vertices.{Owner, the_root, version_of, State, in_class, owner_brings, dep}
 use Rattle.model.specs.inner.Assignment.{Locks, IsOwnerAt, Leads, Has}
 use Rattle.model.proofs.Same.{both, text-same, text-refl, version-same, version-refl}

@@ -6,11 +6,10 @@ use Rattle.semver.specs.Parse.{Parts}
 use Rattle.semver.specs.EvalViews.{matches_views}
 use Rattle.model.specs.Summary.{Dependency, Entry, feature, dependency, dependency_feature, weak_feature}
 use Rattle.model.specs.Summary.{asked_of_target, same_text, has_feature, entries_at}
-use Rattle.model.specs.Facts.{Fact, here, on, enabled, Brings, Lists}
-use Rattle.model.specs.Facts.Holds.{starts, arrives, root_needs, needs, asks, root_wants, turns_on, enables}
-use Rattle.model.specs.Facts.Holds.{enables_for, wants, wants_weakly}
+use Rattle.model.specs.Selection.{Fact, here, on, enabled, Brings, Lists, Class, class_of}
+use Rattle.model.specs.Selection.Holds.{starts, arrives, root_needs, needs, asks, root_wants, turns_on, enables}
+use Rattle.model.specs.Selection.Holds.{enables_for, wants, wants_weakly}
 use Rattle.model.specs.Content.{Problem, Candidate, candidates_of, candidate_at, brings_of}
-use Rattle.model.specs.Selection.{Class, class_of}
 use Rattle.model.specs.Vertices.{Owner, the_root, version_of, Vertex, root, pkg, dep, feat, ask, State, absent, present}
 use Rattle.model.specs.Vertices.{version, in_class, same_vertex, same_class, owner_brings, dep_classes}
 use Rattle.model.specs.Vertices.{class_candidates, in_that_class, dep_space, space}
@@ -21,7 +20,7 @@ use Rattle.model.specs.Axioms.{HasFeatVertex, RootAsks, IsInstance}
 use Rattle.model.specs.Axioms.IsInstance.{root_is, needed, has_target, has_its_feature, wants_by_list, wants_by_entry}
 use Rattle.model.specs.Axioms.IsInstance.{feature_on, dependency_on, feature_asks, newest_listed, weakly}
 use Rattle.model.specs.Axioms.HasFeatVertex.{had, asked as vertex_of_asked, by_entry}
-use Rattle.model.specs.WellFormed.{IsCatalogue}
+use Rattle.model.specs.Order.{IsCatalogue}
 use Rattle.model.specs.inner.Search.{IsUnbroken, LeadsTo, IsTheRoot, IsReachedFact, IsPresent, IsOn, SaysOfFact}
 use Rattle.model.proofs.Same.{class-same, text-same, text-refl, vertex-same, vertex-refl, class-refl}
 use Rattle.model.proofs.Inner.{version_inner}

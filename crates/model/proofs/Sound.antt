@@ -6,13 +6,12 @@ use Rattle.semver.specs.Parse.{Parts}
 use Rattle.semver.specs.EvalViews.{matches_views}
 use Rattle.model.specs.Summary.{Summary, Dependency, Entry, feature, dependency, dependency_feature, weak_feature}
 use Rattle.model.specs.Summary.{entries_at, has_feature, asked_of_target}
-use Rattle.model.specs.Facts.{on, enabled, Lists}
-use Rattle.model.specs.Facts.Holds.{root_needs, needs, asks, root_wants, turns_on, enables, enables_for, wants}
-use Rattle.model.specs.Facts.Holds.{wants_weakly}
+use Rattle.model.specs.Selection.{on, enabled, Lists, Class, class_of, IsValidSelection, IsFact, IsTarget}
+use Rattle.model.specs.Selection.Holds.{root_needs, needs, asks, root_wants, turns_on, enables, enables_for, wants}
+use Rattle.model.specs.Selection.Holds.{wants_weakly}
 use Rattle.model.specs.Content.{Problem, Content, Package, Candidate, candidates_of, candidate_at, brings_of}
 use Rattle.model.specs.Content.{summary_at, serves_if, list_if}
-use Rattle.model.specs.Selection.{Class, class_of, IsValidSelection, IsFact, IsTarget}
-use Rattle.model.specs.WellFormed.{IsCatalogue}
+use Rattle.model.specs.Order.{IsCatalogue}
 use Rattle.model.specs.Vertices.{Owner, the_root, version_of, Vertex, root, pkg, dep, feat, ask, State, absent, present}
 use Rattle.model.specs.Vertices.{version, in_class, same_state, has_state, class_candidates, in_that_class}
 use Rattle.model.specs.Axioms.{Term, at, Kind, is_lower, owner_holds, HasDep, HasEntry, absent_or, versions_that}

@@ -6,11 +6,11 @@ use Rattle.std.specs.declared.cmp.Ordering.TheVariants.{Less, Greater}
 use Rattle.std.proofs.lemmas.Option.{slice_get-map, same_Some, none-some}
 use Rattle.semver.specs.Parse.{Parts}
 use Rattle.model.specs.Summary.{Dependency}
-use Rattle.model.specs.Facts.{enabled, Brings}
+use Rattle.model.specs.Selection.{enabled, Brings}
 use Rattle.model.specs.Content.{Package, Content, Problem, is_root, candidates_of, candidate_at}
 use Rattle.model.specs.Order.{package_cmp}
 use Rattle.model.specs.Vertices.{Owner, the_root, version_of, owner_brings}
-use Rattle.model.specs.Stands.{IsReachedFact, StandsFor, name_of}
+use Rattle.model.specs.Walk.{IsReachedFact, StandsFor, name_of}
 use Rattle.model.proofs.Contents.{rising_at}
 use Rattle.model.proofs.Inner.{name_in, version_in}
 use Rattle.model.proofs.Lists.{in_map, to_map}

@@ -2,7 +2,7 @@
 use Rattle.std.proofs.Common.{◌≡◌, ℕ, List, Bool, true, false, cond, Option, Some, None, refl, IsUtf8}
 use Rattle.std.proofs.lemmas.Str.{is_utf8-from_IsUtf8, IsUtf8-from_is_utf8}
 use Rattle.std.specs.Str.{is_utf8}
-use Rattle.model.specs.Optional.{of_utf8}
+use Rattle.model.specs.Content.{of_utf8}
 
 pub utf8-read : {X : Type 0} (read : List ℕ → Option X) (bytes : List ℕ) (x : X) → IsUtf8 bytes
     → read bytes ≡ Some x → of_utf8 read bytes ≡ Some x

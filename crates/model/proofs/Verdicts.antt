@@ -4,13 +4,13 @@ use Rattle.std.proofs.Common.{is_some, false, refl, sym, ap, ap₂, ◌∙◌, s
 use Rattle.std.proofs.lemmas.Bool.{cases_order}
 use Rattle.std.proofs.lemmas.Option.{none-some, slice_get_within}
 use Rattle.model.specs.Summary.{Dependency, has_feature}
-use Rattle.model.specs.Facts.{Fact, here, on, enabled, Brings}
-use Rattle.model.specs.Facts.Holds.{starts, arrives, root_needs, needs, asks, root_wants, turns_on, enables}
-use Rattle.model.specs.Facts.Holds.{enables_for, wants, wants_weakly}
+use Rattle.model.specs.Selection.{Fact, here, on, enabled, Brings, class_of, IsValidSelection, IsFact, IsPlace, IsOther}
+use Rattle.model.specs.Selection.{IsEnabled, HasTarget}
+use Rattle.model.specs.Selection.Holds.{starts, arrives, root_needs, needs, asks, root_wants, turns_on, enables}
+use Rattle.model.specs.Selection.Holds.{enables_for, wants, wants_weakly}
 use Rattle.model.specs.Content.{Problem, Content, Package, candidate_of, summary_if, summary_at, serves_if, list_if}
 use Rattle.model.specs.Content.{target_of}
-use Rattle.model.specs.Selection.{class_of, IsValidSelection, IsFact, IsPlace, IsOther, IsEnabled, HasTarget}
-use Rattle.model.specs.WellFormed.{IsContent}
+use Rattle.model.specs.Order.{IsContent}
 use Rattle.model.specs.Verdict.{VerdictFault, not_candidate, two_in_class, unmet, no_feature, wrong_list, unreached}
 use Rattle.model.specs.Verdict.{number_of, Verdict, valid, no_root, at_package, HasFault, IsFaultless, IsFirstFault}
 use Rattle.model.specs.Verdict.{IsVerdict}

@@ -7,7 +7,7 @@ use Rattle.model.specs.Summary.{Summary, Dependency, Entry, asked_of_target, fea
 use Rattle.model.specs.Summary.{weak_feature, entries_at, has_feature}
 use Rattle.model.specs.Content.{Candidate, Problem, candidates_of, candidate_at, brings_of}
 use Rattle.model.specs.Selection.{Class, class_of}
-use Rattle.model.specs.WellFormed.{IsCatalogue}
+use Rattle.model.specs.Order.{IsCatalogue}
 use Rattle.model.specs.Vertices.{Owner, the_root, version_of, pkg, same_class, classes_of, in_that_class}
 use Rattle.model.specs.Vertices.{class_candidates, owner_brings, matching}
 use Rattle.model.specs.Axioms.{Term, Kind, IsOwner, HasDep, HasClass, HasEntry, HasFeatVertex, RootAsks, IsVertex}

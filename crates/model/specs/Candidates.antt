@@ -9,8 +9,7 @@ use Rattle.std.specs.declared.cmp.Ordering.TheVariants.{Less, Equal}
 use Rattle.semver.specs.Parse.{Parts}
 use Rattle.model.specs.Summary.{Summary, same_text}
 use Rattle.model.specs.Content.{Content, Candidate, same_version, same_option}
-use Rattle.model.specs.Order.{precedence}
-use Rattle.model.specs.Sorting.{in_order}
+use Rattle.model.specs.Order.{precedence, in_order}
 
 -- a Rust version: major, minor and patch
 abbrev pub RustVersion : Type 0

@@ -6,8 +6,7 @@ use Rattle.std.specs.List.{list_any, flat_map}
 use Rattle.semver.specs.Parse.{Parts}
 use Rattle.model.specs.Summary.{Dependency, Entry, feature, dependency, dependency_feature, weak_feature, Table}
 use Rattle.model.specs.Summary.{entries_at, has_feature, asked_of_target, same_text}
-use Rattle.model.specs.Content.{Candidate, Problem, candidates_of}
-use Rattle.model.specs.Optional.{passes}
+use Rattle.model.specs.Content.{Candidate, Problem, candidates_of, passes}
 use Rattle.model.specs.Selection.{Class, class_of}
 use Rattle.model.specs.Vertices.{Owner, the_root, version_of, root, pkg, dep, feat, ask, absent, present, version}
 use Rattle.model.specs.Vertices.{in_class, same_vertex, owner_brings, class_candidates}

@@ -5,6 +5,7 @@ use Rattle.std.specs.Prelude.{is_some, slice_get, option_and_then}
 use Rattle.semver.specs.Parse.{Parts}
 use Rattle.semver.specs.EvalViews.{matches_views}
 use Rattle.model.specs.Summary.{Summary, Dependency, same_text, nothing}
+use Rattle.std.specs.Str.{is_utf8}
 
 -- a locked package; its list has the places of packages of the same content
 pub record Package : Type 0 where
@@ -111,3 +112,19 @@ list_if (Some p) = p.list
 -- the target of a dependency of the package at place n: the last of its list that serves it
 abbrev pub target_of : Content → ℕ → Dependency → Option ℕ
 target_of content n d = last_serving content d (list_if (slice_get content n))
+
+-- ---- What is asked of something that may not be there.
+
+-- whether there is one, and it passes the test
+abbrev pub passes : {X : Type 0} → (X → Bool) → Option X → Bool
+passes test None = false
+passes test (Some x) = test x
+
+-- the packages of a lock, if there is one
+abbrev pub packages_if : Option Content → Content
+packages_if None = []
+packages_if (Some content) = content
+
+-- what bytes are read as: nothing where they are no UTF-8
+abbrev pub of_utf8 : {X : Type 0} → (List ℕ → Option X) → List ℕ → Option X
+of_utf8 read bytes = if is_utf8 bytes then read bytes else None

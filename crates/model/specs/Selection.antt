@@ -1,11 +1,68 @@
 -- When a content is a valid selection (Cargo book, "Dependency Resolution").
-use Rattle.std.specs.Prelude.{◌≡◌, ◌<◌, ◌↔◌, ℕ, List, true, false, Some, slice_get, Contains, length, IsSome, nat_lt}
+use Rattle.std.specs.Prelude.{◌≡◌, ℕ, List, false, Some, slice_get, Contains, ◌<◌, ◌↔◌, true, length, IsSome, nat_lt}
 use Rattle.std.specs.Prelude.{if◌then◌else◌}
+use Rattle.model.specs.Summary.{Summary, Dependency, Entry, feature, dependency, dependency_feature, weak_feature}
+use Rattle.model.specs.Summary.{entries_at, asked_of_target, has_feature}
 use Rattle.semver.specs.Parse.{Parts}
-use Rattle.model.specs.Summary.{Dependency, has_feature}
-use Rattle.model.specs.Facts.{Fact, Holds, on, enabled}
 use Rattle.model.specs.Content.{Package, Content, Problem, is_root, candidate_of, summary_at, target_of}
-use Rattle.model.specs.WellFormed.{IsContent}
+use Rattle.model.specs.Order.{IsContent}
+
+-- ---- Which packages are here, which dependencies are enabled and which features are on: the facts that finite chains
+-- of
+-- reasons give (Cargo book, "Features"). The rules are stated once, over any packages N: what each brings, which one is
+-- the root, which are here from the start, and where a dependency leads. A locked content, the preferred walk and an
+-- assignment of the search each read them with their own targets.
+
+pub data Fact (N : Type 0) : Type 0 where
+  -- the package is one of those that count
+  here : N → Fact N
+  -- the feature is on at the package
+  on : N → List ℕ → Fact N
+  -- the dependency of the package with this number is enabled
+  enabled : N → ℕ → Fact N
+
+module _ {N : Type 0} (owner : N → Summary) where
+  -- d is dependency number i of n
+  abbrev pub Brings : N → ℕ → Dependency → Type 0
+  Brings n i d = slice_get (owner n).dependencies i ≡ Some d
+
+  -- the feature f of n has this entry
+  abbrev pub Lists : N → List ℕ → Entry → Type 0
+  Lists n f e = (es : List Entry) × (entries_at f (owner n).features ≡ Some es) × Contains es e
+
+-- LeadsTo n i d t: dependency number i of n, which is d, leads to t
+module _ {N : Type 0} (owner : N → Summary) (IsRoot Starts : N → Type 0) (root_asks : List (List ℕ × List ℕ))
+    (LeadsTo : N → ℕ → Dependency → N → Type 0) where
+  pub data Holds : Fact N → Type 0 where
+    starts : (n : N) → Starts n → Holds (here n)
+    -- the target of an enabled dependency is here too
+    arrives : (n t : N) (i : ℕ) (d : Dependency) → Holds (enabled n i) → Brings owner n i d
+        → LeadsTo n i d t → Holds (here t)
+    -- the root needs each of its dependencies, and a candidate each that isn't optional
+    root_needs : (n : N) (i : ℕ) (d : Dependency) → Holds (here n) → IsRoot n → Brings owner n i d → Holds (enabled n i)
+    needs : (n : N) (i : ℕ) (d : Dependency) → Holds (here n) → Brings owner n i d
+        → d.optional ≡ false → Holds (enabled n i)
+    -- an enabled dependency asks its target for features
+    asks : (n t : N) (i : ℕ) (d : Dependency) (f : List ℕ)
+        → Holds (enabled n i) → Brings owner n i d → LeadsTo n i d t → Contains (asked_of_target d) f → Holds (on t f)
+    -- the root's entries `d/g` ask each dependency called d
+    root_wants : (n t : N) (i : ℕ) (d : Dependency) (g : List ℕ)
+        → Holds (here n) → IsRoot n → Brings owner n i d → LeadsTo n i d t
+        → Contains root_asks (d.name, g) → Holds (on t g)
+    -- entry `g`
+    turns_on : (n : N) (f g : List ℕ) → Holds (on n f) → Lists owner n f (feature g) → Holds (on n g)
+    -- entries `dep:d` and `d/g` enable each dependency called d
+    enables : (n : N) (i : ℕ) (d : Dependency) (f : List ℕ)
+        → Holds (on n f) → Brings owner n i d → Lists owner n f (dependency d.name) → Holds (enabled n i)
+    enables_for : (n : N) (i : ℕ) (d : Dependency) (f g : List ℕ)
+        → Holds (on n f) → Brings owner n i d → Lists owner n f (dependency_feature d.name g) → Holds (enabled n i)
+    -- entry `d/g` asks the target of each dependency called d, and `d?/g` where that one is enabled
+    wants : (n t : N) (i : ℕ) (d : Dependency) (f g : List ℕ)
+        → Holds (on n f) → Brings owner n i d → Lists owner n f (dependency_feature d.name g)
+        → LeadsTo n i d t → Holds (on t g)
+    wants_weakly : (n t : N) (i : ℕ) (d : Dependency) (f g : List ℕ)
+        → Holds (on n f) → Brings owner n i d → Lists owner n f (weak_feature d.name g) → Holds (enabled n i)
+        → LeadsTo n i d t → Holds (on t g)
 
 -- the leftmost nonzero number with the zeros before it
 pub data Class : Type 0 where

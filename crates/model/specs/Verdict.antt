@@ -2,10 +2,9 @@
 -- that it breaks (Cargo book, "Dependency Resolution" and "Features").
 use Rattle.std.specs.Prelude.{◌≡◌, ◌<◌, ◌↔◌, ℕ, List, true, Some, slice_get, Contains, IsSome}
 use Rattle.model.specs.Summary.{Dependency, has_feature}
-use Rattle.model.specs.Facts.{on}
-use Rattle.model.specs.Content.{Package, Content, Problem, candidate_of, summary_at}
-use Rattle.model.specs.Selection.{class_of, IsRootAt, IsPlace, IsOther, IsFact, IsEnabled, HasTarget, IsTarget}
+use Rattle.model.specs.Selection.{on, class_of, IsRootAt, IsPlace, IsOther, IsFact, IsEnabled, HasTarget, IsTarget}
 use Rattle.model.specs.Selection.{IsReached}
+use Rattle.model.specs.Content.{Package, Content, Problem, candidate_of, summary_at}
 
 -- what may be wrong at a package
 pub data VerdictFault : Type 0 where

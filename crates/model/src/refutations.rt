@@ -22,7 +22,7 @@ ghost use Rattle.std.specs.Ordering.{ordering_reverse};
 ghost use Rattle.std.specs.declared.cmp.Ordering.{Ordering};
 ghost use Rattle.model.specs.Content.{Content, Problem};
 ghost use Rattle.model.specs.Selection.{IsValidSelection};
-ghost use Rattle.model.specs.WellFormed.{IsCatalogue};
+ghost use Rattle.model.specs.Order.{IsCatalogue};
 ghost use Rattle.model.specs.Vertices.{State, Vertex};
 ghost use Rattle.model.specs.Axioms.{AreApart, IsInstance, Kind, Term, without_full};
 ghost use Rattle.model.specs.Derivation.{AreSteps, IsAccepted, IsCombined, SameTerms, Step, combined_at, states_at};

@@ -13,7 +13,7 @@ use Rattle.model.specs.Vertices.{Vertex, State, absent, space}
 use Rattle.model.proofs.Lists.{in_first, in_rest}
 use Rattle.model.proofs.Members.{all_each}
 use Rattle.model.specs.Causes.{Cause, is_cause, kind_of, terms_of_cause}
-use Rattle.vertices.specs.Kinds.{kind_view}
+use Rattle.vertices.specs.Texts.{kind_view}
 use Rattle.vertices.specs.declared.kind.Kind.{Kind}
 use Rattle.numbering.specs.inner.Assignments.{state_at}
 use Rattle.numbering.specs.GivenViews.{cause_views, given_views}

@@ -18,11 +18,10 @@ use Rattle.classes.specs.Classes.{class_view}
 use Rattle.classes.specs.declared.class.Class as code
 use Rattle.model.specs.Axioms.{is_lower}
 use Rattle.model.specs.Content.{Problem, same_version, candidates_of}
-use Rattle.model.specs.Order.{precedence}
+use Rattle.model.specs.Order.{precedence, IsCatalogue}
 use Rattle.model.specs.Selection.{Class, patch, minor, major}
 use Rattle.model.specs.Summary.{Dependency}
 use Rattle.model.specs.Vertices.{dep_classes, matching, same_class}
-use Rattle.model.specs.WellFormed.{IsCatalogue}
 use Rattle.model.proofs.Candidates.{precedence_total}
 use Rattle.model.proofs.Contents.{precedence-equal}
 use Rattle.model.proofs.Lists.{pairs_first, pairs_none, pairs_rest, to_any}

@@ -6,8 +6,7 @@ use Rattle.std.proofs.lemmas.Bool.{and_from, not-true}
 use Rattle.semver.specs.Parse.{Parts}
 use Rattle.model.specs.Summary.{Dependency, Entry, feature, dependency, dependency_feature, weak_feature}
 use Rattle.model.specs.Summary.{asked_of_target, same_text}
-use Rattle.model.specs.Content.{Problem, Candidate, candidates_of}
-use Rattle.model.specs.Optional.{passes}
+use Rattle.model.specs.Content.{Problem, Candidate, candidates_of, passes}
 use Rattle.model.specs.Selection.{Class, class_of}
 use Rattle.model.specs.Vertices.{Owner, the_root, version_of, Vertex, root, pkg, dep, feat, ask, State, absent, present}
 use Rattle.model.specs.Vertices.{version, in_class, same_vertex, owner_brings, dep_classes, dep_space, class_candidates}

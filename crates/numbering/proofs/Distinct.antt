@@ -8,7 +8,7 @@ use Rattle.semver.specs.Parse.{Parts}
 use Rattle.model.specs.Summary.{Dependency, same_text}
 use Rattle.model.specs.Content.{Candidate, Problem, candidates_of}
 use Rattle.model.specs.Selection.{Class, class_of}
-use Rattle.model.specs.WellFormed.{IsCatalogue}
+use Rattle.model.specs.Order.{IsCatalogue}
 use Rattle.model.specs.Vertices.{Vertex, root, pkg, dep, feat, ask, State, absent, present, version, in_class}
 use Rattle.model.specs.Vertices.{same_class, classes_of, matching, dep_classes, dep_space, owner_brings, in_that_class}
 use Rattle.model.specs.Vertices.{class_candidates, space}

@@ -1,10 +1,10 @@
 -- The first term of an instance holds where the instance is broken, and at most one of its terms has absent among its
 -- states.
-use Rattle.std.proofs.Common.{◌≡◌, ℕ, List, [], ◌∷◌, Bool, true, ◌&&◌, not, Contains, Option, Some, None, nat_eq, sym, ◌∙◌}
+use Rattle.std.proofs.Common.{◌≡◌, ℕ, List, [], ◌∷◌, Bool, true, ◌&&◌, not, Contains, Option, Some, None, nat_eq, sym}
+use Rattle.std.proofs.Common.{◌∙◌}
 use Rattle.std.proofs.Common.{inl, inr, subst}
 use Rattle.model.specs.Summary.{Dependency, dependency_feature}
-use Rattle.model.specs.Content.{Problem}
-use Rattle.model.specs.Optional.{passes}
+use Rattle.model.specs.Content.{Problem, passes}
 use Rattle.model.specs.Selection.{Class}
 use Rattle.model.specs.Vertices.{Owner, the_root, version_of, Vertex, dep, State, in_class}
 use Rattle.model.specs.Axioms.{Term, HasOneOf, IsBroken, owner_holds}
@@ -80,12 +80,17 @@ module _ (q : Problem) (state : Vertex → State) where
   pairs_hold of_root t b p there = alone_holds of_root (first_holds of_root t b) p there
   pairs_hold (of_need o i) t b p there = alone_holds (of_need o i) (first_holds (of_need o i) t b) p there
   pairs_hold (of_target o i k) t b p there = alone_holds (of_target o i k) (first_holds (of_target o i k) t b) p there
-  pairs_hold (of_feature n k f) t b p there = alone_holds (of_feature n k f) (first_holds (of_feature n k f) t b) p there
+  pairs_hold (of_feature n k f) t b p there =
+      alone_holds (of_feature n k f) (first_holds (of_feature n k f) t b) p there
   pairs_hold (of_list o i k g) t b p there = alone_holds (of_list o i k g) (first_holds (of_list o i k g) t b) p there
-  pairs_hold (of_ask n v i g k) t b p there = alone_holds (of_ask n v i g k) (first_holds (of_ask n v i g k) t b) p there
-  pairs_hold (of_entry n v f g) t b p there = alone_holds (of_entry n v f g) (first_holds (of_entry n v f g) t b) p there
-  pairs_hold (of_enabling n v f e i) t b p there = alone_holds (of_enabling n v f e i) (first_holds (of_enabling n v f e i) t b) p there
-  pairs_hold (of_asking n v f g i) t b p there = alone_holds (of_asking n v f g i) (first_holds (of_asking n v f g i) t b) p there
+  pairs_hold (of_ask n v i g k) t b p there =
+      alone_holds (of_ask n v i g k) (first_holds (of_ask n v i g k) t b) p there
+  pairs_hold (of_entry n v f g) t b p there =
+      alone_holds (of_entry n v f g) (first_holds (of_entry n v f g) t b) p there
+  pairs_hold (of_enabling n v f e i) t b p there =
+      alone_holds (of_enabling n v f e i) (first_holds (of_enabling n v f e i) t b) p there
+  pairs_hold (of_asking n v f g i) t b p there =
+      alone_holds (of_asking n v f g i) (first_holds (of_asking n v f g i) t b) p there
   pairs_hold (of_newest o i j k m) t b p there =
       elim (in_cons (dep o i, in_class k) p ((dep o j, in_class m) ∷ []) there) [
         | inl e ↦ subst Holds e (first_holds (of_newest o i j k m) t b)
@@ -94,4 +99,5 @@ module _ (q : Problem) (state : Vertex → State) where
           | inr n ↦ absurd (in_none p n)
         ]
       ]
-  pairs_hold (of_weak n v f g i k) t b p there = alone_holds (of_weak n v f g i k) (first_holds (of_weak n v f g i k) t b) p there
+  pairs_hold (of_weak n v f g i k) t b p there =
+      alone_holds (of_weak n v f g i k) (first_holds (of_weak n v f g i k) t b) p there

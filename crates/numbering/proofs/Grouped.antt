@@ -6,8 +6,7 @@ use Rattle.semver.specs.Eval.{precedence_cmp}
 use Rattle.semver.specs.Identifiers.{parts_of}
 use Rattle.semver.specs.declared.Version.{Version}
 use Rattle.model.specs.Summary.{Dependency}
-use Rattle.model.specs.Order.{precedence}
-use Rattle.model.specs.WellFormed.{IsCatalogue}
+use Rattle.model.specs.Order.{precedence, IsCatalogue}
 use Rattle.model.specs.Vertices.{dep_classes}
 use Rattle.model.proofs.Gathered.{pairs_map}
 use Rattle.manifest.specs.Manifests.{ManifestView}

@@ -1,7 +1,9 @@
 -- What is put for an owner, a package and a class is noted there, and what was noted is so still.
-use Rattle.std.proofs.Common.{◌≡◌, ◌⊎◌, ℕ, zero, suc, List, [], ◌∷◌, ◌++◌, ◌&&◌, ◌||◌, Bool, true, false, not, cond, Contains}
+use Rattle.std.proofs.Common.{◌≡◌, ◌⊎◌, ℕ, zero, suc, List, [], ◌∷◌, ◌++◌, ◌&&◌, ◌||◌, Bool, true, false, not, cond}
+use Rattle.std.proofs.Common.{Contains}
 use Rattle.std.proofs.Common.{Option, Some, nat_eq, slice_get, arith}
-use Rattle.std.proofs.Common.{Vec, map, refl, sym, ap, ap₂, ◌∙◌, subst, unwrap_or, inl, inr, ◌+◌, ◌<◌, length, drop, get_or}
+use Rattle.std.proofs.Common.{Vec, map, refl, sym, ap, ap₂, ◌∙◌, subst, unwrap_or, inl, inr, ◌+◌, ◌<◌, length, drop}
+use Rattle.std.proofs.Common.{get_or}
 use Rattle.std.specs.HashMap.{HashMap, get}
 use Rattle.std.specs.List.{flat_map, list_any}
 use Rattle.std.specs.Map.{lookup}
@@ -24,7 +26,8 @@ use Rattle.model.proofs.Same.{both, class-refl, class-same, owner-refl, owner-sa
 use Rattle.model.specs.Causes.{dependency_at}
 use Rattle.vertices.specs.inner.RefViews.{owner_ref_view}
 use Rattle.numbering.specs.inner.AskedFor.{AreBeside, HasBeside, HasOther, IsNoted, IsNotedFor, KeepsListed, KeepsNoted}
-use Rattle.numbering.specs.inner.AskedFor.{NotedKey, is_key, listed_at, listed_if, noted_beside, noted_views, same_noted_key}
+use Rattle.numbering.specs.inner.AskedFor.{NotedKey, is_key, listed_at, listed_if, noted_beside, noted_views}
+use Rattle.numbering.specs.inner.AskedFor.{same_noted_key}
 use Rattle.numbering.specs.inner.Indexed.{same_owner_key, same_ref}
 use Rattle.numbering.specs.inner.Called.{numbered_from, numbered_view, numbered_views}
 use Rattle.numbering.specs.inner.Lists.{if_some}
@@ -56,7 +59,8 @@ key_is k x = ap (λ b. same_owner_key k.0 x.0 && b) (class_same k.1 x.1)
 pub those_at : (l : Listed) (k : NotedKey) → noted_views (if_some (get same_noted_key l.on k))
     ≡ listed_at l (owner_ref_view (k.0).0) (k.0).1.now (class_view k.1)
 those_at l k =
-    ap (λ (o : Option Those). noted_views (if_some o)) (lookup_same (same_noted_key k) (of_key k) l.on.entries (key_is k))
+    ap (λ (o : Option Those). noted_views (if_some o))
+        (lookup_same (same_noted_key k) (of_key k) l.on.entries (key_is k))
 
 -- the key at which something stands
 key_of : (test : NotedKey → Bool) (es : List (NotedKey × Those)) (p : ℕ × Class)
@@ -109,11 +113,13 @@ kept_by old new each o x m p h =
     let r = key_of (is_key o x m) old.on.entries p h in
     let k = r.0 in
     subst (λ ps. Contains ps p) (sym (at_key new o x m k r.1)) (subst (λ ps. Contains ps p) (those_at new k)
-    (each k p (subst (λ ps. Contains ps p) (sym (those_at old k)) (subst (λ ps. Contains ps p) (at_key old o x m k r.1) h))))
+    (each k p (subst (λ ps. Contains ps p) (sym (those_at old k))
+            (subst (λ ps. Contains ps p) (at_key old o x m k r.1) h))))
 
 -- where a key has the same list again, or an empty one
 module _ (old new : Listed) (k : NotedKey) (w : Those)
-    (is : (x : NotedKey) → get same_noted_key new.on x ≡ cond (same_noted_key k x) (Some w) (get same_noted_key old.on x))
+    (is : (x : NotedKey)
+          → get same_noted_key new.on x ≡ cond (same_noted_key k x) (Some w) (get same_noted_key old.on x))
     {found : Option Those} (before none : Those) (had : found ≡ get same_noted_key old.on k)
     (or : before ≡ unwrap_or found none) (empty : none.items ≡ []) (same : w.items ≡ before.items) where
   same_list : (x : NotedKey) → if_some (get same_noted_key new.on x) ≡ if_some (get same_noted_key old.on x)
@@ -130,13 +136,15 @@ module _ (old new : Listed) (k : NotedKey) (w : Those)
 
 -- one that is put behind those of its key
 module _ (old new : Listed) (k : NotedKey) (value : ℕ × code.Class) (w : Those)
-    (is : (x : NotedKey) → get same_noted_key new.on x ≡ cond (same_noted_key k x) (Some w) (get same_noted_key old.on x))
+    (is : (x : NotedKey)
+          → get same_noted_key new.on x ≡ cond (same_noted_key k x) (Some w) (get same_noted_key old.on x))
     {found : Option Those} (before none : Those) (had : found ≡ get same_noted_key old.on k)
     (or : before ≡ unwrap_or found none) (empty : none.items ≡ []) (more : w.items ≡ before.items ++ value ∷ []) where
   pushed_views : (x : NotedKey) → noted_views (if_some (get same_noted_key new.on x))
       ≡ noted_views (if_some (get same_noted_key old.on x)) ++ noted_views (cond (same_noted_key k x) (value ∷ []) [])
   pushed_views x =
-      ap noted_views (pushed same_noted_key old.on new.on k value w (key_alike old.on k) is before none had or empty more x)
+      ap noted_views
+          (pushed same_noted_key old.on new.on k value w (key_alike old.on k) is before none had or empty more x)
       ∙ map-append (λ (p : ℕ × code.Class). (p.0, class_view p.1)) (if_some (get same_noted_key old.on x))
       (cond (same_noted_key k x) (value ∷ []) [])
 
@@ -202,7 +210,8 @@ Led = Owner × ℕ × Dependency × Class
 
 module _ (q : Problem) (ns : Noted) (o : Owner) (i : ℕ) (d : Dependency) (k : Class)
     (at : dependency_at q o i ≡ Some d) where
-  same_led : (p : Owner) (j : ℕ) (e : Dependency) (l : Class) → ◌≡◌ {A = Pair} (dep o i, in_class k) (dep p j, in_class l)
+  same_led : (p : Owner) (j : ℕ) (e : Dependency) (l : Class)
+      → ◌≡◌ {A = Pair} (dep o i, in_class k) (dep p j, in_class l)
       → dependency_at q p j ≡ Some e → ◌≡◌ {A = Led} (o, i, d, k) (p, j, e, l)
   same_led p j e l is at_j =
       let r = pair_in o p i j k l is in

@@ -15,9 +15,7 @@ use Rattle.model.proofs.Vertices.{instance_vertices}
 use Rattle.model.proofs.CauseLaws.{cause_instance}
 use Rattle.manifest.specs.Manifests.{ManifestView}
 use Rattle.catalogue.specs.Problems.{problem_in}
-use Rattle.catalogue.specs.Ranks.{records}
-use Rattle.catalogue.specs.Stores.{CatalogueView, IsStore, Row}
-use Rattle.catalogue.specs.Views.{most_candidates}
+use Rattle.catalogue.specs.Stores.{records, CatalogueView, IsStore, Row, most_candidates}
 use Rattle.numbering.specs.Numberings.{Numbering, IsGrown}
 use Rattle.numbering.specs.inner.Numbered.{AreNumbered}
 use Rattle.numbering.specs.inner.TestedTerms.{TestedTerm, IsOfTested, AreOfTested, IsFitting, all_tested}
@@ -26,7 +24,7 @@ use Rattle.std.proofs.lemmas.List.{map-append, length-map}
 use Rattle.std.proofs.Math.Seq.{take-suc}
 use Rattle.version_sets.specs.Sets.{Members}
 use Rattle.terms.specs.declared.term.Term as Numbered
-use Rattle.model.specs.WellFormed.{IsCatalogue}
+use Rattle.model.specs.Order.{IsCatalogue}
 use Rattle.model.specs.Causes.{Cause, is_cause, kind_of, terms_of_cause}
 use Rattle.numbering.specs.Numberings.{IsNumbering, with_vertex}
 use Rattle.numbering.specs.inner.TestedTerms.{tested_view, tested_views}

@@ -10,7 +10,7 @@ use Rattle.incompatibilities.specs.Incompatibilities as numbered
 use Rattle.incompatibilities.specs.Incompatibilities.{Assignment, HoldsOf, Breaks, unless_full}
 use Rattle.model.specs.Content.{Problem, Content}
 use Rattle.model.specs.Selection.{IsValidSelection}
-use Rattle.model.specs.WellFormed.{IsCatalogue}
+use Rattle.model.specs.Order.{IsCatalogue}
 use Rattle.model.specs.Vertices.{Vertex, State, absent, same_vertex, has_state, space}
 use Rattle.model.specs.Axioms.{Term, Kind, IsInstance}
 use Rattle.model.specs.Derivation as model

@@ -10,7 +10,7 @@ use Rattle.model.specs.Summary.{Dependency, has_feature}
 use Rattle.model.specs.Candidates.{Record, as_candidate}
 use Rattle.model.specs.Content.{Candidate, Problem, brings_of, candidate_at, candidates_of, same_version}
 use Rattle.model.specs.Selection.{Class}
-use Rattle.model.specs.WellFormed.{IsCatalogue}
+use Rattle.model.specs.Order.{IsCatalogue}
 use Rattle.model.specs.Vertices.{Owner, pkg, dep, State, absent, version, in_class, has_state, same_state, same_class}
 use Rattle.model.specs.Vertices.{class_candidates, in_that_class, dep_space, owner_brings}
 use Rattle.model.specs.Axioms.{absent_or, matched, versions_that}
@@ -19,8 +19,7 @@ use Rattle.model.proofs.Lists.{in_none, in_cons, in_first, in_rest, in_filter, i
 use Rattle.model.proofs.Lists.{any_of, pairs_first, pairs_rest}
 use Rattle.manifest.specs.Manifests.{ManifestView}
 use Rattle.catalogue.specs.Problems.{problem_in}
-use Rattle.catalogue.specs.Stores.{CatalogueView, candidates_at}
-use Rattle.catalogue.specs.Views.{Said, said, said_by}
+use Rattle.catalogue.specs.Stores.{CatalogueView, candidates_at, Said, said, said_by}
 use Rattle.catalogue.specs.declared.candidate.Candidate as stored
 use Rattle.model.specs.inner.Listed.{classes_at, classes_if}
 use Rattle.numbering.specs.Numberings.{members_at}

@@ -3,7 +3,7 @@ use Rattle.std.specs.Prelude.{List, map}
 use Rattle.version_sets.specs.Sets.{Members}
 use Rattle.terms.specs.Terms.{terms_view}
 use Rattle.terms.specs.declared.term.Term.{Term}
-use Rattle.vertices.specs.Kinds.{kind_view}
+use Rattle.vertices.specs.Texts.{kind_view}
 use Rattle.vertices.specs.declared.kind.Kind.{Kind}
 use Rattle.model.specs.Causes as causes
 use Rattle.numbering.specs.Pairs.{Given}

@@ -5,7 +5,7 @@ ghost use Rattle.std.specs.Prelude.{◌≡◌, ◌++◌, OnOk, map};
 ghost use Rattle.std.specs.List.{flat_map};
 ghost use Rattle.classes.specs.Classes.{class_view};
 ghost use Rattle.features.specs.Views.{dependency_view, dependency_views};
-ghost use Rattle.model.specs.Optional.{passes};
+ghost use Rattle.model.specs.Content.{passes};
 ghost use Rattle.model.specs.Vertices.{owner_brings};
 ghost use Rattle.model.specs.Causes.{dependency_at, is_cause, is_overtaken, of_newest};
 ghost use Rattle.numbering.specs.inner.AskedFor.{both_of, newest_of, noted_views};

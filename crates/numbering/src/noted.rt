@@ -12,7 +12,8 @@ ghost use Rattle.model.specs.Axioms.{is_lower};
 ghost use Rattle.model.specs.Selection as model;
 ghost use Rattle.model.specs.Summary as summary;
 ghost use Rattle.model.specs.Vertices.{dep};
-ghost use Rattle.numbering.specs.inner.AskedFor.{AreBeside, HasOther, IsNoted, IsNotedFor, KeepsListed, KeepsNoted, listed_at};
+ghost use Rattle.numbering.specs.inner.AskedFor.{AreBeside, HasOther, IsNoted, IsNotedFor, KeepsListed, KeepsNoted};
+ghost use Rattle.numbering.specs.inner.AskedFor.{listed_at};
 ghost use Rattle.numbering.specs.inner.AskedFor.{listed_if, noted_beside, noted_views};
 ghost use Rattle.numbering.specs.inner.KnownProblem.{problem};
 ghost use Rattle.numbering.specs.inner.OnPackage.{is_other};
@@ -261,7 +262,8 @@ impl<'a> Noted<'a> {
     ) -> Result<(), AllocError>
         ensures kept { KeepsNoted self.old self.new }
         ensures noted { OnOk result
-            (IsNoted (problem known.now) self.new (dep (owner_ref_view owner.entry) number, state_ref_view state.entry)) }
+            (IsNoted (problem known.now) self.new
+                (dep (owner_ref_view owner.entry) number, state_ref_view state.entry)) }
     {
         let StateRef::Class(class) = state else {
             return Ok(());

@@ -1,20 +1,20 @@
 //! The terms of the instance that a cause gives rise to, each as a vertex and tests of its space.
 
 ghost use Rattle.std.specs.List.{list_all};
-ghost use Rattle.std.specs.Prelude.{◌≡◌, ◌∷◌, [], true, false, filter, map, not, Some, IfOk};
+ghost use Rattle.std.specs.Prelude.{◌≡◌, ◌∷◌, [], true, filter, map, not, Some, IfOk};
 ghost use Rattle.catalogue.specs.Stores.{candidates_at};
 ghost use Rattle.lookups.specs.inner.Matching.{is_release};
 ghost use Rattle.lookups.specs.inner.Ranges.{is_of};
 ghost use Rattle.semver.specs.Identifiers.{parts_of};
 ghost use Rattle.classes.specs.Classes.{class_view};
 ghost use Rattle.features.specs.Views.{dependency_view};
-ghost use Rattle.model.specs.Axioms.{absent_or, at, matched, owner_holds, versions_that};
+ghost use Rattle.model.specs.Axioms.{absent_or, at, matched, versions_that};
 ghost use Rattle.model.specs.Selection.{class_of};
 ghost use Rattle.model.specs.Summary.{has_feature};
 ghost use Rattle.model.specs.Vertices as model;
-ghost use Rattle.model.specs.Causes as causes;
-ghost use Rattle.model.specs.Causes.{dependency_at, feature_holds, terms_of_cause};
+ghost use Rattle.model.specs.Causes.{dependency_at, terms_of_cause};
 ghost use Rattle.lookups.specs.inner.CauseViews.{cause_view};
+ghost use Rattle.lookups.specs.inner.Symbolic.{symbolic_view};
 ghost use Rattle.numbering.specs.inner.KnownProblem.{problem};
 ghost use Rattle.numbering.specs.inner.TestedTerms.{states_view, tested, tested_view, tested_views, all_tested};
 ghost use Rattle.vertices.specs.inner.RefViews.{owner_ref_view, vertex_ref_view};
@@ -28,7 +28,9 @@ use crate::space_tests::{
 use catalogue::catalogues_are_well_formed;
 use classes::Class;
 use features::{DependencyParts, FeatureName, PackageName};
-use lookups::{Cause, are_releases, class_candidates, class_versions};
+use lookups::{
+    Cause, Problem, SymbolicTerm, are_releases, class_candidates, class_versions, symbolic_terms,
+};
 use semver::Version;
 use std::alloc::{AllocError, Global};
 use vertices::{OwnerRef, VertexRef};
@@ -49,30 +51,42 @@ pub(crate) fn terms_tested<'a>(
     ensures { IfOk result (λ v. tested_views v.items
         ≡ all_tested (problem known.now) (terms_of_cause (problem known.now) (cause_view cause.now))) }
 {
-    match *cause {
-        Cause::Root => Ok(vec![in alloc; two_states(VertexRef::Root, false)]?),
-        Cause::Need(owner, number) => need_terms(alloc, known, owner, number),
-        Cause::Target(owner, number, class) => target_terms(alloc, known, owner, number, class),
-        Cause::Feature(name, class, feature) => feature_terms(alloc, known, name, class, feature),
-        Cause::List(owner, number, class, feature) => {
-            list_terms(alloc, known, owner, number, class, feature)
+    let problem = Problem {
+        manifest: known.manifest,
+        catalogue: known.catalogue,
+    };
+    let terms = symbolic_terms(alloc, &problem, cause)?;
+    let mut made = Vec::with_capacity(alloc, terms.len())?;
+    'terms: for term in terms.iter() {
+        made.push(tested(alloc, known, *term)?)?;
+    }
+    Ok(made)
+}
+
+/// A term with the tests of its vertex's states.
+fn tested<'a>(
+    alloc: Global,
+    known: &KnownProblem<'a>,
+    term: SymbolicTerm<'a>,
+) -> Result<TestedTerm<'a>, AllocError>
+    ensures { IfOk result
+        (λ p. tested_view p ≡ tested (problem known.now) (symbolic_view (problem known.now) term.entry)) }
+{
+    match term {
+        SymbolicTerm::Root(there) => Ok(two_states(VertexRef::Root, there)),
+        SymbolicTerm::Feature(name, class, feature, on) => {
+            Ok(two_states(VertexRef::Feature(name, class, feature), on))
         }
-        Cause::Ask(name, version, number, feature, class) => {
-            ask_terms(alloc, known, name, version, number, feature, class)
-        }
-        Cause::Entry(name, version, on, off) => entry_terms(alloc, known, name, version, on, off),
-        Cause::Enabling(name, version, on, _, number) => {
-            enabling_terms(alloc, known, name, version, on, number)
-        }
-        Cause::Asking(name, version, on, asked, number) => {
-            asking_terms(alloc, known, name, version, on, asked, number)
-        }
-        Cause::Newest(owner, number, other, class, higher) => {
-            newest_terms(alloc, known, owner, number, other, class, higher)
-        }
-        Cause::Weak(name, version, on, off, number, class) => {
-            weak_terms(alloc, known, name, version, on, off, number, class)
-        }
+        SymbolicTerm::Ask(name, version, number, feature, asks) => Ok(two_states(
+            VertexRef::Ask(name, version, number, feature),
+            asks,
+        )),
+        SymbolicTerm::Chosen(name, version) => Ok(chosen(known, name, version)),
+        SymbolicTerm::Absent(owner, number) => absent(alloc, known, owner, number),
+        SymbolicTerm::Leads(owner, number, class) => leads(alloc, known, owner, number, class),
+        SymbolicTerm::Unmatched(dependency, class) => left(alloc, known, dependency, class),
+        SymbolicTerm::Matched(dependency, class) => taken(alloc, known, dependency, class),
+        SymbolicTerm::Lacking(name, class, feature) => lacking(alloc, known, name, class, feature),
     }
 }
 
@@ -107,16 +121,6 @@ fn dependency_term(owner: OwnerRef<'_>, number: usize, tests: Tests) -> TestedTe
     }
 }
 
-/// The owner counts.
-fn holds<'a>(known: &KnownProblem<'a>, owner: OwnerRef<'a>) -> TestedTerm<'a>
-    ensures { tested_view result ≡ tested (problem known.now) (owner_holds (owner_ref_view owner.entry)) }
-{
-    match owner {
-        OwnerRef::Root => two_states(VertexRef::Root, true),
-        OwnerRef::Version(name, version) => chosen(known, name, version),
-    }
-}
-
 /// The version is chosen.
 fn chosen<'a>(
     known: &KnownProblem<'a>,
@@ -129,37 +133,6 @@ fn chosen<'a>(
     let class = Class::of(version);
     let versions = class_versions(known.catalogue, name, class);
     package_term(name, class, Tests::One(chosen_tests(version, versions)))
-}
-
-/// The feature of the version is on, or off.
-fn own_feature<'a>(
-    name: &'a PackageName,
-    version: &'a Version,
-    feature: &'a FeatureName,
-    on: bool,
-) -> TestedTerm<'a>
-    ensures { tested_view result
-        ≡ (model.feat name.entry.now (class_of (parts_of version.entry.now)) feature.entry.now, not on ∷ on ∷ []) }
-{
-    two_states(VertexRef::Feature(name, Class::of(version), feature), on)
-}
-
-/// The feature is off in the class.
-fn off_there<'a>(
-    dependency: &'a DependencyParts,
-    class: Class,
-    feature: &'a FeatureName,
-) -> TestedTerm<'a>
-    ensures { tested_view result ≡ (
-      model.feat (dependency_view dependency.entry.now).real_name
-          (class_view class) feature.entry.now,
-      true ∷ false ∷ [],
-    ) }
-{
-    two_states(
-        VertexRef::Feature(&dependency.real_name, class, feature),
-        false,
-    )
 }
 
 /// The dependency is absent.
@@ -212,95 +185,6 @@ fn leads<'a>(
     match dependency_at(known, &owner, number) {
         Some(dependency) => leads_to(alloc, known, owner, number, dependency, class),
         None => Ok(dependency_term(owner, number, Tests::One(class_tests(class, &[])))),
-    }
-}
-
-fn need_terms<'a>(
-    alloc: Global,
-    known: &KnownProblem<'a>,
-    owner: OwnerRef<'a>,
-    number: usize,
-) -> Result<Vec<TestedTerm<'a>>, AllocError>
-    ensures { IfOk result (λ v. tested_views v.items ≡ all_tested (problem known.now)
-        (terms_of_cause (problem known.now) (causes.of_need (owner_ref_view owner.entry) number))) }
-{
-    Ok(vec![in alloc; holds(known, owner), absent(alloc, known, owner, number)?]?)
-}
-
-fn entry_terms<'a>(
-    alloc: Global,
-    known: &KnownProblem<'a>,
-    name: &'a PackageName,
-    version: &'a Version,
-    on: &'a FeatureName,
-    off: &'a FeatureName,
-) -> Result<Vec<TestedTerm<'a>>, AllocError>
-    ensures { IfOk result (λ v. tested_views v.items ≡ all_tested (problem known.now)
-        (feature_holds name.entry.now (parts_of version.entry.now) on.entry.now (at (model.feat name.entry.now
-        (class_of (parts_of version.entry.now)) off.entry.now) (model.absent ∷ []) ∷ []))) }
-{
-    Ok(vec![in alloc;
-        chosen(known, name, version),
-        own_feature(name, version, on, true),
-        own_feature(name, version, off, false),
-    ]?)
-}
-
-fn enabling_terms<'a>(
-    alloc: Global,
-    known: &KnownProblem<'a>,
-    name: &'a PackageName,
-    version: &'a Version,
-    on: &'a FeatureName,
-    number: usize,
-) -> Result<Vec<TestedTerm<'a>>, AllocError>
-    ensures { IfOk result (λ v. tested_views v.items ≡ all_tested (problem known.now) (feature_holds name.entry.now
-        (parts_of version.entry.now) on.entry.now (at (model.dep (model.version_of name.entry.now
-        (parts_of version.entry.now)) number) (model.absent ∷ []) ∷ []))) }
-{
-    Ok(vec![in alloc;
-        chosen(known, name, version),
-        own_feature(name, version, on, true),
-        absent(alloc, known, OwnerRef::Version(name, version), number)?,
-    ]?)
-}
-
-fn asking_terms<'a>(
-    alloc: Global,
-    known: &KnownProblem<'a>,
-    name: &'a PackageName,
-    version: &'a Version,
-    on: &'a FeatureName,
-    asked: &'a FeatureName,
-    number: usize,
-) -> Result<Vec<TestedTerm<'a>>, AllocError>
-    ensures { IfOk result (λ v. tested_views v.items ≡ all_tested (problem known.now)
-        (feature_holds name.entry.now (parts_of version.entry.now) on.entry.now (at (model.ask name.entry.now
-        (parts_of version.entry.now) number asked.entry.now) (model.absent ∷ []) ∷ []))) }
-{
-    Ok(vec![in alloc;
-        chosen(known, name, version),
-        own_feature(name, version, on, true),
-        two_states(VertexRef::Ask(name, version, number, asked), false),
-    ]?)
-}
-
-fn target_terms<'a>(
-    alloc: Global,
-    known: &KnownProblem<'a>,
-    owner: OwnerRef<'a>,
-    number: usize,
-    class: Class,
-) -> Result<Vec<TestedTerm<'a>>, AllocError>
-    ensures { IfOk result (λ v. tested_views v.items ≡ all_tested (problem known.now) (terms_of_cause
-        (problem known.now) (causes.of_target (owner_ref_view owner.entry) number (class_view class)))) }
-{
-    match dependency_at(known, &owner, number) {
-        Some(dependency) => Ok(vec![in alloc;
-            leads_to(alloc, known, owner, number, dependency, class)?,
-            left(alloc, known, dependency, class)?,
-        ]?),
-        None => Ok(Vec::new(alloc)),
     }
 }
 
@@ -374,131 +258,4 @@ fn lacking<'a>(
     let candidates = class_candidates(known.catalogue, name, class);
     let tests = lacking_tests(alloc, feature, candidates)?;
     Ok(package_term(name, class, Tests::Each(tests)))
-}
-
-fn feature_terms<'a>(
-    alloc: Global,
-    known: &KnownProblem<'a>,
-    name: &'a PackageName,
-    class: Class,
-    feature: &'a FeatureName,
-) -> Result<Vec<TestedTerm<'a>>, AllocError>
-    ensures { IfOk result (λ v. tested_views v.items ≡ all_tested (problem known.now) (terms_of_cause
-        (problem known.now) (causes.of_feature name.entry.now (class_view class) feature.entry.now))) }
-{
-    Ok(vec![in alloc;
-        two_states(VertexRef::Feature(name, class, feature), true),
-        lacking(alloc, known, name, class, feature)?,
-    ]?)
-}
-
-fn list_terms<'a>(
-    alloc: Global,
-    known: &KnownProblem<'a>,
-    owner: OwnerRef<'a>,
-    number: usize,
-    class: Class,
-    feature: &'a FeatureName,
-) -> Result<Vec<TestedTerm<'a>>, AllocError>
-    ensures { IfOk result
-        (λ v. tested_views v.items ≡ all_tested (problem known.now) (terms_of_cause (problem known.now)
-        (causes.of_list (owner_ref_view owner.entry) number (class_view class) feature.entry.now))) }
-{
-    match dependency_at(known, &owner, number) {
-        Some(dependency) => Ok(vec![in alloc;
-            leads_to(alloc, known, owner, number, dependency, class)?,
-            off_there(dependency, class, feature),
-        ]?),
-        None => Ok(Vec::new(alloc)),
-    }
-}
-
-fn ask_terms<'a>(
-    alloc: Global,
-    known: &KnownProblem<'a>,
-    name: &'a PackageName,
-    version: &'a Version,
-    number: usize,
-    feature: &'a FeatureName,
-    class: Class,
-) -> Result<Vec<TestedTerm<'a>>, AllocError>
-    ensures { IfOk result
-        (λ v. tested_views v.items ≡ all_tested (problem known.now) (terms_of_cause (problem known.now)
-        (causes.of_ask name.entry.now (parts_of version.entry.now) number feature.entry.now (class_view class)))) }
-{
-    let owner = OwnerRef::Version(name, version);
-    match dependency_at(known, &owner, number) {
-        Some(dependency) => Ok(vec![in alloc;
-            two_states(VertexRef::Ask(name, version, number, feature), true),
-            leads_to(alloc, known, owner, number, dependency, class)?,
-            off_there(dependency, class, feature),
-        ]?),
-        None => Ok(Vec::new(alloc)),
-    }
-}
-
-fn newest_terms<'a>(
-    alloc: Global,
-    known: &KnownProblem<'a>,
-    owner: OwnerRef<'a>,
-    number: usize,
-    other: usize,
-    class: Class,
-    higher: Class,
-) -> Result<Vec<TestedTerm<'a>>, AllocError>
-    ensures { IfOk result
-        (λ v. tested_views v.items ≡ all_tested (problem known.now) (terms_of_cause (problem known.now)
-        (causes.of_newest (owner_ref_view owner.entry) number other (class_view class) (class_view higher)))) }
-{
-    match dependency_at(known, &owner, number) {
-        Some(dependency) => Ok(vec![in alloc;
-            leads_to(alloc, known, owner, number, dependency, class)?,
-            leads(alloc, known, owner, other, higher)?,
-            taken(alloc, known, dependency, higher)?,
-        ]?),
-        None => Ok(Vec::new(alloc)),
-    }
-}
-
-fn weak_terms<'a>(
-    alloc: Global,
-    known: &KnownProblem<'a>,
-    name: &'a PackageName,
-    version: &'a Version,
-    on: &'a FeatureName,
-    off: &'a FeatureName,
-    number: usize,
-    class: Class,
-) -> Result<Vec<TestedTerm<'a>>, AllocError>
-    ensures { IfOk result (λ v. tested_views v.items
-        ≡ all_tested (problem known.now) (terms_of_cause (problem known.now) (causes.of_weak name.entry.now
-        (parts_of version.entry.now) on.entry.now off.entry.now number (class_view class)))) }
-{
-    let owner = OwnerRef::Version(name, version);
-    match dependency_at(known, &owner, number) {
-        Some(dependency) => four(
-            alloc,
-            chosen(known, name, version),
-            own_feature(name, version, on, true),
-            leads_to(alloc, known, owner, number, dependency, class)?,
-            off_there(dependency, class, off),
-        ),
-        None => Ok(Vec::new(alloc)),
-    }
-}
-
-fn four<'a>(
-    alloc: Global,
-    a: TestedTerm<'a>,
-    b: TestedTerm<'a>,
-    c: TestedTerm<'a>,
-    d: TestedTerm<'a>,
-) -> Result<Vec<TestedTerm<'a>>, AllocError>
-    ensures { IfOk result
-        (λ v. tested_views v.items
-        ≡ tested_view a.entry ∷ tested_view b.entry ∷ tested_view c.entry ∷ tested_view d.entry ∷ []) }
-{
-    let mut tested_terms = vec![in alloc; a, b, c]?;
-    tested_terms.push(d)?;
-    Ok(tested_terms)
 }

@@ -1,7 +1,8 @@
 //! What each command of `cargo relock` ends with: its status, what is told, and the lock that is to replace the old
 //! one.
 //!
-//! A command prints nothing itself: it adds to two texts (`Said`), which are the same run's for people and for programs,
+//! A command prints nothing itself: it adds to two texts (`Said`), which are the same run's for people and for
+//! programs,
 //! and says what else is to be done (`Outcome`). So a layer above prints at the end alone, once the line that told how
 //! far the run had come is gone, and replaces the lock after that.
 //!

@@ -3,7 +3,7 @@
 ghost use Rattle.std.specs.Prelude.{IfOk};
 ghost use Rattle.changes.specs.inner.Ways.{is_own};
 ghost use Rattle.reports.specs.inner.WhyThere.{IsWhyThere, asks_for};
-ghost use Rattle.model.specs.Optional.{packages_if};
+ghost use Rattle.model.specs.Content.{packages_if};
 
 use crate::reporting::{Inputs, loaded};
 use crate::wanted::Wanted;

@@ -15,13 +15,11 @@ use Rattle.model.proofs.Owners.{is_candidate, not_root}
 use Rattle.model.proofs.Same.{text-refl}
 use Rattle.model.proofs.Places.{place_of}
 use Rattle.manifest.specs.Manifests.{ManifestView}
-use Rattle.index_reader.specs.Folders.{Files, MemoryCalls, file_at}
-use Rattle.index_reader.specs.Paths.{path_of}
+use Rattle.index_reader.specs.Folders.{Files, MemoryCalls, file_at, path_of}
 use Rattle.catalogue.specs.Runs.{Asked, next_name}
 use Rattle.catalogue.specs.Loads.{IsWithin, IsSoFar, IsLoaded, Loads, store_of, differs, has_changed, first_changed}
 use Rattle.catalogue.specs.Problems.{IsRunOver, names_in, problem_in, problem_of}
-use Rattle.catalogue.specs.Stores.{CatalogueView, candidates_at, record_at}
-use Rattle.catalogue.specs.Views.{said}
+use Rattle.catalogue.specs.Stores.{CatalogueView, candidates_at, record_at, said}
 use Rattle.catalogue.specs.declared.fault.LoadFault.{LoadFault}
 use Rattle.catalogue.proofs.LawsCandidates.{file_of, with_file}
 use Rattle.catalogue.proofs.LawsCatalogues.{problem-asked}
@@ -32,7 +30,7 @@ use Rattle.catalogue.proofs.LawsNames.{asked-distinct, turn-more}
 use Rattle.catalogue.proofs.LawsPackages.{text_option}
 use Rattle.catalogue.proofs.LawsSelections.{holds_again}
 use Rattle.selection.proofs.Lookups.{of_source}
-use Rattle.resolver.specs.Faults.{input_wants_memory, of_load}
+use Rattle.resolver.specs.Inputs.{input_wants_memory, of_load}
 use Rattle.resolver.proofs.Unstopped.{no_fault}
 
 -- a loaded index is what a selection of its run is held against

@@ -11,21 +11,18 @@ use Rattle.model.specs.Candidates.{Record, RustVersion, is_locked}
 use Rattle.model.specs.Summary.{Dependency, same_text}
 use Rattle.model.proofs.Lists.{in_first, all_none, all_cons, all_first, all_rest}
 use Rattle.manifest.specs.Manifests.{ManifestView}
-use Rattle.index_reader.specs.Folders.{Files, MemoryCalls, file_at}
-use Rattle.index_reader.specs.Paths.{path_of}
+use Rattle.index_reader.specs.Folders.{Files, MemoryCalls, file_at, path_of}
 use Rattle.vertices.proofs.Bound.{same-Some}
 use Rattle.catalogue.specs.Runs.{Asked, candidates_in, next_name, AreNext}
 use Rattle.catalogue.specs.Loads.{IsWithin, IsSoFar, IsLoaded, Loads, store_of, ranked_in, differs, first_changed}
 use Rattle.catalogue.specs.Problems.{problem_in, problem_of}
-use Rattle.catalogue.specs.Ranks.{records}
-use Rattle.catalogue.specs.Stores.{CatalogueView, candidates_at, record_at, row_at}
-use Rattle.catalogue.specs.Views.{said}
+use Rattle.catalogue.specs.Stores.{records, CatalogueView, candidates_at, record_at, row_at, said}
 use Rattle.catalogue.specs.declared.fault.LoadFault.{LoadFault}
 use Rattle.catalogue.proofs.Chosen.{records-ranked}
 use Rattle.catalogue.proofs.LawsCandidates.{file_of}
 use Rattle.catalogue.proofs.LawsIndexes.{chain-answers}
 use Rattle.catalogue.proofs.LawsNames.{turn-more}
-use Rattle.resolver.specs.Faults.{input_wants_memory, of_load}
+use Rattle.resolver.specs.Inputs.{input_wants_memory, of_load}
 use Rattle.resolver.proofs.Again.{problem-is}
 use Rattle.resolver.proofs.Unstopped.{no_fault}
 

@@ -11,8 +11,8 @@ use Rattle.lockfile.specs.declared.fault.LockFault.{LockFault}
 use Rattle.catalogue.specs.Runs.{Calls}
 use Rattle.catalogue.specs.Sources.{is_source}
 use Rattle.vertices.proofs.Bound.{same-Ok}
-use Rattle.resolver.specs.Faults.{input_wants_memory}
-use Rattle.resolver.specs.Inputs.{RequestView, AreRead, EndsWith, UnlessMemory, names_of, old_of_bytes, problem_of}
+use Rattle.resolver.specs.Inputs.{input_wants_memory, RequestView, AreRead, EndsWith, UnlessMemory, names_of}
+use Rattle.resolver.specs.Inputs.{old_of_bytes, problem_of}
 use Rattle.resolver.specs.Inputs.IsCutShort.{after_loading}
 use Rattle.resolver.specs.Answers.{AreSkips, CanKeep, HoldsOld, IsAnswer, IsKept, IsMisread, IsNew, IsReply}
 use Rattle.resolver.specs.Answers.{IsUnanswered, IsWritten, MeansSelection, RepliesWith, Resolves, with_skips}

@@ -19,12 +19,11 @@ use Rattle.index_lines.specs.Shapes.{optional, package_name_of, package_name_at,
 use Rattle.index_lines.specs.Shapes.{ValuesView, values_of, part_with, dependency_of, dependencies_in}
 use Rattle.index_lines.specs.Shapes.{dependencies_at, shape_of}
 use Rattle.index_lines.specs.Records.{RecordView, unless, semver_or, required_part, required, dependency_read}
-use Rattle.index_lines.specs.Records.{dependencies_read}
-use Rattle.index_lines.specs.Records.{is_of_index, is_checksum, feature_names, unchecked_of_shape, unchecked_of_line}
-use Rattle.index_lines.specs.Written.{features_of}
+use Rattle.index_lines.specs.Records.{dependencies_read, is_of_index, is_checksum, feature_names, unchecked_of_shape}
+use Rattle.index_lines.specs.Records.{unchecked_of_line, features_of}
 use Rattle.index_reader.specs.Files.{FileView, has_version, no_lines, with_skip, with_record, with_found, with_read}
 use Rattle.index_reader.specs.Files.{with_line, with_lines, records_of_file}
-use Rattle.trees.specs.Lines.{is_line_end, is_blank}
+use Rattle.trees.specs.Trees.{is_line_end, is_blank}
 use Rattle.index_lines.specs.declared.fault.SkipReason.{SkipReason}
 use Rattle.index_lines.specs.declared.fault.SkipReason.TheVariants.{BadChecksum, BadRequirement, BadVersion, Duplicate}
 use Rattle.index_lines.specs.declared.fault.SkipReason.TheVariants.{NewerFormat, OtherName, OtherRegistry}

@@ -1,12 +1,12 @@
 -- What was loaded makes a catalogue, that of a run of the folder.
 use Rattle.std.proofs.Common.{ℕ, sym, subst}
-use Rattle.model.specs.WellFormed.{IsCatalogue}
+use Rattle.model.specs.Order.{IsCatalogue}
 use Rattle.catalogue.specs.Loads.{rust_for}
 use Rattle.catalogue.specs.Problems.{IsProblemOfRun}
 use Rattle.catalogue.specs.Runs.{Calls}
 use Rattle.catalogue.proofs.LawsCatalogues.{problem-loaded, run-catalogue}
 use Rattle.resolver.specs.Inputs.{RequestView, AreRead, problem_of}
-use Rattle.model.specs.Optional.{packages_if}
+use Rattle.model.specs.Content.{packages_if}
 use Rattle.resolver.specs.declared.inputs.Inputs.{Inputs}
 
 module _ {S : Type 0} (calls : Calls S) (failed : S → ℕ) (request : RequestView) (before : S) (inputs : Inputs)

@@ -5,8 +5,7 @@ use Rattle.std.specs.Borrow.{Bor}
 use Rattle.catalogue.specs.Loads.{Loads, packages_of_old, rust_for}
 use Rattle.catalogue.specs.Problems.{names_in}
 use Rattle.catalogue.specs.Stores.{CatalogueView}
-use Rattle.model.specs.Content.{Content}
-use Rattle.model.specs.Optional.{packages_if}
+use Rattle.model.specs.Content.{Content, packages_if}
 use Rattle.manifest.specs.Manifests.{ManifestView, manifest_of_bytes}
 use Rattle.manifest.specs.Faults as manifests
 use Rattle.manifest.specs.declared.fault.ManifestFault.{ManifestFault}
@@ -18,8 +17,8 @@ use Rattle.catalogue.specs.Runs.{Calls}
 use Rattle.catalogue.specs.declared.fault.LoadFault.{LoadFault}
 use Rattle.catalogue.specs.declared.fault.LoadFault.TheVariants as load
 use Rattle.model.specs.Outcome.{Faults}
-use Rattle.resolver.specs.Faults.{of_manifest, of_lock, of_load}
-use Rattle.resolver.specs.Inputs.{RequestView, IsCutShort, ReadsInputs, LoadsFor, old_of_bytes}
+use Rattle.resolver.specs.Inputs.{of_manifest, of_lock, of_load, RequestView, IsCutShort, ReadsInputs, LoadsFor}
+use Rattle.resolver.specs.Inputs.{old_of_bytes}
 use Rattle.resolver.specs.Inputs.IsInputFault.{by_manifest, by_lock, by_index}
 use Rattle.resolver.specs.Inputs.IsCutShort.{before_loading, while_loading, while_asking}
 

@@ -3,8 +3,7 @@ use Rattle.std.proofs.Common.{◌≡◌, ℕ, Bool, true, false, List, Vec, Opti
 use Rattle.std.proofs.Common.{subst}
 use Rattle.std.specs.declared.alloc.Global.{Global}
 use Rattle.model.specs.Candidates.{RustVersion}
-use Rattle.model.specs.Content.{Content}
-use Rattle.model.specs.Optional.{packages_if}
+use Rattle.model.specs.Content.{Content, packages_if}
 use Rattle.model.specs.Derivation.{IsAccepted, Step}
 use Rattle.manifest.specs.Manifests.{ManifestView, manifest_of_bytes}
 use Rattle.index_reader.specs.Folders.{Files, MemoryCalls}
@@ -18,9 +17,8 @@ use Rattle.catalogue.specs.declared.store.Prefer.TheVariants.{Newest}
 use Rattle.derivations.specs.Files.{derivation_of_bytes}
 use Rattle.checker.specs.declared.outcome.Check.{Check}
 use Rattle.vertices.proofs.Bound.{same-Ok}
-use Rattle.resolver.specs.Faults.{input_wants_memory}
-use Rattle.resolver.specs.Inputs.{RequestView, AreRead, IsInputFault, LoadsFor, EndsWith, old_of_bytes}
-use Rattle.resolver.specs.Inputs.{problem_of}
+use Rattle.resolver.specs.Inputs.{input_wants_memory, RequestView, AreRead, IsInputFault, LoadsFor, EndsWith}
+use Rattle.resolver.specs.Inputs.{old_of_bytes, problem_of}
 use Rattle.resolver.specs.Inputs.IsInputFault.{by_manifest, by_lock, by_index}
 use Rattle.resolver.specs.Answers.{IsAnswer, Resolves}
 use Rattle.resolver.specs.Answers.IsAnswer.{kept_lock, new_lock, no_lock}

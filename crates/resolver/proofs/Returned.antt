@@ -5,8 +5,7 @@ use Rattle.std.specs.declared.alloc.Global.{Global}
 use Rattle.std.proofs.lemmas.List.Elements.{Contains-push_cases}
 use Rattle.model.specs.Outcome.{◌>>=◌}
 use Rattle.model.specs.Candidates.{RustVersion}
-use Rattle.model.specs.Content.{Content}
-use Rattle.model.specs.Optional.{packages_if}
+use Rattle.model.specs.Content.{Content, packages_if}
 use Rattle.model.specs.Selection.{IsValidSelection}
 use Rattle.model.proofs.Lists.{in_none}
 use Rattle.manifest.specs.Manifests.{ManifestView, manifest_of_bytes}
@@ -21,9 +20,8 @@ use Rattle.catalogue.specs.declared.store.Prefer.{Prefer}
 use Rattle.catalogue.specs.declared.store.Prefer.TheVariants.{Newest}
 use Rattle.selection.specs.declared.verdict.Verdict.{Verdict}
 use Rattle.vertices.proofs.Bound.{same-Ok, same-Some}
-use Rattle.resolver.specs.Faults.{input_wants_memory}
-use Rattle.resolver.specs.Inputs.{RequestView, AreRead, IsInputFault, IsCutShort, IsSoFarFor, LoadsFor, EndsWith}
-use Rattle.resolver.specs.Inputs.{names_of, old_of_bytes, problem_of}
+use Rattle.resolver.specs.Inputs.{input_wants_memory, RequestView, AreRead, IsInputFault, IsCutShort, IsSoFarFor}
+use Rattle.resolver.specs.Inputs.{LoadsFor, EndsWith, names_of, old_of_bytes, problem_of}
 use Rattle.resolver.specs.Inputs.IsInputFault.{by_manifest, by_lock, by_index}
 use Rattle.resolver.specs.Inputs.IsCutShort.{before_loading, while_loading, while_asking, after_loading}
 use Rattle.resolver.specs.Answers.{CanKeep, IsAnswer, IsAnswered, IsUnanswered, MeansSelection, Resolves, Verifies}

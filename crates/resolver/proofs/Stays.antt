@@ -1,14 +1,12 @@
 -- A call leaves a folder in memory as it was, however it ends.
 use Rattle.std.proofs.Common.{◌≡◌, ◌⊎◌, ℕ, Bool, true, false, List, [], ◌∷◌, Option, Result, Ok, Err, inl, inr, refl}
 use Rattle.std.proofs.Common.{◌∙◌}
-use Rattle.model.specs.Content.{Content}
-use Rattle.model.specs.Optional.{packages_if}
+use Rattle.model.specs.Content.{Content, packages_if}
 use Rattle.model.specs.Candidates.{RustVersion}
 use Rattle.model.specs.Summary.{Dependency}
 use Rattle.manifest.specs.Manifests.{ManifestView}
 use Rattle.index_reader.specs.Folders as folders
-use Rattle.index_reader.specs.Folders.{Files, MemoryCalls}
-use Rattle.index_reader.specs.Paths.{path_of}
+use Rattle.index_reader.specs.Folders.{Files, MemoryCalls, path_of}
 use Rattle.index_reader.specs.declared.folder.FolderFault.TheVariants.{OutOfMemory, Failed}
 use Rattle.catalogue.specs.Runs.{Asked, Chain}
 use Rattle.catalogue.specs.Loads.{Fails, IsAskedAtMost, HasFailed, Loads, rust_for}
@@ -18,8 +16,8 @@ use Rattle.catalogue.specs.declared.fault.LoadFault.TheVariants as load
 use Rattle.catalogue.specs.declared.fault.Limit.TheVariants as limit
 use Rattle.selection.specs.declared.verdict.Verdict.{Verdict}
 use Rattle.checker.specs.declared.outcome.Check.{Check}
-use Rattle.resolver.specs.Faults.{input_wants_memory}
-use Rattle.resolver.specs.Inputs.{RequestView, AreRead, IsInputFault, IsCutShort, EndsWith, LoadsFor}
+use Rattle.resolver.specs.Inputs.{input_wants_memory, RequestView, AreRead, IsInputFault, IsCutShort, EndsWith}
+use Rattle.resolver.specs.Inputs.{LoadsFor}
 use Rattle.resolver.specs.Inputs.IsInputFault.{by_manifest, by_lock, by_index}
 use Rattle.resolver.specs.Inputs.IsCutShort.{before_loading, while_loading, while_asking, after_loading}
 use Rattle.resolver.specs.Answers.{IsUnanswered, Resolves, Verifies}

@@ -5,15 +5,13 @@ use Rattle.std.proofs.lemmas.List.Elements.{All-contains}
 use Rattle.model.specs.Candidates.{RustVersion}
 use Rattle.model.proofs.Lists.{all_first, all_rest, to_map}
 use Rattle.model.proofs.Members.{all_in}
-use Rattle.index_reader.specs.Folders.{Files, MemoryCalls, file_at}
-use Rattle.index_reader.specs.Paths.{path_of}
+use Rattle.index_reader.specs.Folders.{Files, MemoryCalls, file_at, path_of}
 use Rattle.catalogue.specs.Loads.{IsLoaded, rust_for, store_of}
 use Rattle.catalogue.specs.Runs.{Asked, Chain}
 use Rattle.catalogue.proofs.LawsIndexes.{chain-answers}
 use Rattle.vertices.proofs.Bound.{same-Ok}
-use Rattle.resolver.specs.Faults.{input_wants_memory}
-use Rattle.resolver.specs.Inputs.{RequestView, AreRead, IsInputFault, names_of}
-use Rattle.model.specs.Optional.{packages_if}
+use Rattle.resolver.specs.Inputs.{input_wants_memory, RequestView, AreRead, IsInputFault, names_of}
+use Rattle.model.specs.Content.{packages_if}
 use Rattle.resolver.specs.Answers.{IsAnswer, IsAnswered}
 use Rattle.resolver.specs.inner.Returning.{AreAlike}
 use Rattle.resolver.specs.declared.inputs.Inputs.{Inputs}

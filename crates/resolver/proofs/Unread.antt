@@ -2,12 +2,10 @@
 use Rattle.std.proofs.Common.{◌≡◌, ◌≢◌, ℕ, Bool, true, false, nat_le, length, Ok, inl, inr, refl, subst}
 use Rattle.std.specs.List.{All}
 use Rattle.std.proofs.lemmas.Bool.{leb-true, leb-false}
-use Rattle.model.specs.Content.{Content, Problem}
-use Rattle.model.specs.Optional.{packages_if}
+use Rattle.model.specs.Content.{Content, Problem, packages_if}
 use Rattle.model.specs.Selection.{IsValidSelection}
 use Rattle.lockfile.specs.Locks.{content_of_bytes, most_bytes}
-use Rattle.lockfile.specs.Spelling.{spelling}
-use Rattle.lockfile.specs.Table.{IsWritable}
+use Rattle.lockfile.specs.Spelling.{spelling, IsWritable}
 use Rattle.lockfile.proofs.Back.{bytes-back}
 use Rattle.catalogue.specs.Problems.{IsProblemOfRun}
 use Rattle.catalogue.specs.Runs.{Calls}

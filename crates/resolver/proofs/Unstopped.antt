@@ -5,15 +5,14 @@ use Rattle.std.proofs.Common.{subst, arith}
 use Rattle.model.specs.Content.{Content}
 use Rattle.model.specs.Candidates.{RustVersion}
 use Rattle.model.specs.Summary.{Dependency}
-use Rattle.index_reader.specs.Folders.{Files, MemoryCalls, file_at}
-use Rattle.index_reader.specs.Paths.{path_of}
+use Rattle.index_reader.specs.Folders.{Files, MemoryCalls, file_at, path_of}
 use Rattle.catalogue.specs.Runs.{Asked, next_name}
 use Rattle.catalogue.specs.Loads.{IsWithin, IsSoFar, IsLoaded, HasTooMany, HasFailed, Loads, first_changed, most_names}
 use Rattle.catalogue.specs.Stores.{CatalogueView}
 use Rattle.catalogue.specs.declared.fault.LoadFault.{LoadFault}
 use Rattle.catalogue.specs.declared.fault.LoadFault.TheVariants as fault
 use Rattle.catalogue.specs.declared.fault.Limit.TheVariants as limit
-use Rattle.resolver.specs.Faults.{input_wants_memory, of_load}
+use Rattle.resolver.specs.Inputs.{input_wants_memory, of_load}
 use Rattle.resolver.proofs.Stays.{chain-stays}
 
 module _ (folder : Files) (failed : Files → ℕ) (old : Content) (source : List ℕ) (rust : Option RustVersion)

@@ -1,8 +1,7 @@
 -- A lock that is valid for a verdict stays a valid selection with another old lock, if that has what is yanked of it.
 use Rattle.std.proofs.Common.{◌≡◌, ℕ, List, Option, Some, Ok, refl, sym, ap, ◌∙◌, subst}
 use Rattle.model.specs.Candidates.{RustVersion}
-use Rattle.model.specs.Content.{Content}
-use Rattle.model.specs.Optional.{packages_if}
+use Rattle.model.specs.Content.{Content, packages_if}
 use Rattle.model.specs.Outcome.{◌>>=◌}
 use Rattle.model.specs.Selection.{IsValidSelection}
 use Rattle.manifest.specs.Manifests.{ManifestView}

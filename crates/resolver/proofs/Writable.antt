@@ -28,7 +28,7 @@ use Rattle.catalogue.proofs.LawsCandidates.{in_candidates}
 use Rattle.catalogue.proofs.LawsNames.{needed-cases, next-needed}
 use Rattle.catalogue.proofs.LawsPackages.{text_option}
 use Rattle.lockfile.specs.Locks.{is_plain_byte}
-use Rattle.lockfile.specs.Table.{IsPlain, IsWritable}
+use Rattle.lockfile.specs.Spelling.{IsPlain, IsWritable}
 use Rattle.model.specs.Selected.{HasBareRoot}
 use Rattle.resolver.proofs.IndexTexts.{IsName, MeansName, IsRecord, file-texts}
 use Rattle.resolver.proofs.ManifestTexts.{HasTexts}

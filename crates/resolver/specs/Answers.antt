@@ -5,12 +5,10 @@ use Rattle.std.specs.declared.alloc.Global.{Global}
 use Rattle.model.specs.Content.{Content, Problem}
 use Rattle.model.specs.Derivation.{IsAccepted, Step}
 use Rattle.model.specs.Selection.{IsValidSelection}
-use Rattle.index_reader.specs.Files.{SkipView}
-use Rattle.index_reader.specs.Views.{skip_view}
+use Rattle.index_reader.specs.Files.{SkipView, skip_view}
 use Rattle.index_reader.specs.declared.skip.Skip.{Skip}
 use Rattle.lockfile.specs.Locks.{content_of_bytes, most_bytes, table_of_bytes}
-use Rattle.lockfile.specs.Spelling.{spelling}
-use Rattle.lockfile.specs.Table.{table_of}
+use Rattle.lockfile.specs.Spelling.{spelling, table_of}
 use Rattle.catalogue.specs.Runs.{Calls}
 use Rattle.catalogue.specs.Stores.{CatalogueView}
 use Rattle.selection.specs.Verdicts.{IsVerdictOn}
@@ -19,8 +17,8 @@ use Rattle.selection.specs.declared.verdict.Verdict.TheVariants.{Valid}
 use Rattle.explainer.specs.Explanations.{explanation_of}
 use Rattle.model.specs.Selected.{HasBareRoot, IsBrought, IsPreferred, IsSelected, IsUnsolvable}
 use Rattle.catalogue.specs.Problems.{preferred_in}
-use Rattle.resolver.specs.Faults.{input_wants_memory}
-use Rattle.resolver.specs.Inputs.{RequestView, AreRead, IsInputFault, EndsWith, UnlessMemory, problem_of}
+use Rattle.resolver.specs.Inputs.{input_wants_memory, RequestView, AreRead, IsInputFault, EndsWith, UnlessMemory}
+use Rattle.resolver.specs.Inputs.{problem_of}
 use Rattle.resolver.specs.declared.inputs.Inputs.{Inputs}
 use Rattle.resolver.specs.declared.fault.Fault.{Fault}
 use Rattle.resolver.specs.declared.fault.Fault.TheVariants as fault

@@ -10,8 +10,7 @@ use Rattle.checker.specs.RefusedSteps.{IsRefusedAt}
 use Rattle.checker.specs.declared.outcome.Check.{Check}
 use Rattle.checker.specs.declared.outcome.Check.TheVariants.{Proves, Refused}
 use Rattle.checker.specs.declared.outcome.Reason.{Reason}
-use Rattle.resolver.specs.Faults.{input_wants_memory}
-use Rattle.resolver.specs.Inputs.{RequestView, AreRead, IsInputFault, EndsWith, problem_of}
+use Rattle.resolver.specs.Inputs.{input_wants_memory, RequestView, AreRead, IsInputFault, EndsWith, problem_of}
 use Rattle.resolver.specs.declared.inputs.Inputs.{Inputs}
 use Rattle.resolver.specs.declared.fault.CheckFault.{CheckFault}
 use Rattle.resolver.specs.declared.fault.CheckFault.TheVariants.{Input, Proof}

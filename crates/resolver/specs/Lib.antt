@@ -1,4 +1,3 @@
-pub mod Faults
 pub mod Texts
 pub mod Inputs
 pub mod Answers

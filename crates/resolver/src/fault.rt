@@ -132,7 +132,7 @@ impl From<AllocError> for Fault {
 
 impl From<ManifestFault> for Fault {
     ghost use Rattle.std.specs.Prelude.{◌≡◌};
-    ghost use Rattle.resolver.specs.Faults.{of_manifest};
+    ghost use Rattle.resolver.specs.Inputs.{of_manifest};
 
     ghost from_gives = { λ e fault. fault ≡ of_manifest e };
 
@@ -151,7 +151,7 @@ impl From<ManifestFault> for Fault {
 
 impl From<LockFault> for Fault {
     ghost use Rattle.std.specs.Prelude.{◌≡◌};
-    ghost use Rattle.resolver.specs.Faults.{of_lock};
+    ghost use Rattle.resolver.specs.Inputs.{of_lock};
 
     ghost from_gives = { λ e fault. fault ≡ of_lock e };
 
@@ -168,7 +168,7 @@ impl From<LockFault> for Fault {
 
 impl From<LoadFault> for Fault {
     ghost use Rattle.std.specs.Prelude.{◌≡◌};
-    ghost use Rattle.resolver.specs.Faults.{of_load};
+    ghost use Rattle.resolver.specs.Inputs.{of_load};
 
     ghost from_gives = { λ e fault. fault ≡ of_load e };
 
@@ -207,7 +207,7 @@ impl From<AllocError> for CheckFault {
 
 impl From<DerivationFault> for CheckFault {
     ghost use Rattle.std.specs.Prelude.{◌≡◌};
-    ghost use Rattle.resolver.specs.Faults.{of_derivation};
+    ghost use Rattle.resolver.specs.Inputs.{of_derivation};
 
     ghost from_gives = { λ fault e. e ≡ of_derivation fault };
 

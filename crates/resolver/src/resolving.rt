@@ -1,7 +1,7 @@
 //! Resolving a manifest from bytes.
 
 ghost use Rattle.std.specs.Prelude.{◌≡◌, ◌↔◌, true, map, IfOk, Ok, option_copied};
-ghost use Rattle.index_reader.specs.Views.{skip_view};
+ghost use Rattle.index_reader.specs.Files.{skip_view};
 ghost use Rattle.resolver.specs.Inputs.{old_of_bytes};
 ghost use Rattle.resolver.specs.Answers.{HoldsOld, RepliesWith, Resolves, ResolvesKeeping, if_unskipped, with_skips};
 

@@ -2,7 +2,7 @@
 
 ghost use Rattle.std.specs.Prelude.{◌≡◌};
 ghost use Rattle.resolver.specs.Answers.{Writes};
-ghost use Rattle.resolver.specs.Faults.{not_read_back};
+ghost use Rattle.resolver.specs.Inputs.{not_read_back};
 
 use crate::fault::Fault;
 use crate::same::same_content;

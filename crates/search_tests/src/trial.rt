@@ -120,7 +120,8 @@ impl<S: States + Drop> Trial<S> {
         }
     }
 
-    /// Propagates, and resolves the conflict that this ended at; how many terms the refusal has, if it has come to that.
+    /// Propagates, and resolves the conflict that this ended at; how many terms the refusal has, if it has come to
+    /// that.
     pub fn refusal(self) -> Result<Option<usize>, AllocError> {
         let Trial {
             alloc,

@@ -15,8 +15,7 @@ use Rattle.std.proofs.lemmas.List.Quantifiers.{all_pairs_push}
 use Rattle.semver.specs.Parse.{Parts}
 use Rattle.semver.specs.Identifiers.{parts_text}
 use Rattle.model.specs.Content.{Candidate, Package, Content, Problem, candidates_of}
-use Rattle.model.specs.WellFormed.{IsContent}
-use Rattle.model.specs.Order.{package_cmp, precedence, text_cmp, version_cmp, source_cmp}
+use Rattle.model.specs.Order.{IsContent, package_cmp, precedence, text_cmp, version_cmp, source_cmp}
 use Rattle.model.specs.Vertices.{Owner, the_root, version_of}
 use Rattle.model.proofs.Lists.{all_get, pairs_get}
 use Rattle.model.proofs.Permuted.{pairs-permutation}

@@ -7,11 +7,10 @@ use Rattle.std.proofs.lemmas.Option.{slice_get_within, same_Some, none-some}
 use Rattle.model.proofs.Same.{both}
 use Rattle.model.proofs.Places.{some_at}
 use Rattle.model.specs.Summary.{Summary, Dependency}
-use Rattle.model.specs.Facts.{enabled, Brings}
+use Rattle.model.specs.Selection.{enabled, Brings}
 use Rattle.model.specs.Content.{Candidate, Problem}
 use Rattle.model.specs.Vertices.{Owner, owner_brings}
-use Rattle.model.specs.Stands.{IsReachedFact}
-use Rattle.model.specs.Walk.{IsComplete, Picks}
+use Rattle.model.specs.Walk.{IsReachedFact, IsComplete, Picks}
 use Rattle.manifest.specs.Manifests.{root_asks}
 use Rattle.facts.specs.inner.Graphs.{NodeView, node_view, node_views, flag_at, flag_in}
 use Rattle.facts.specs.declared.node.Node.{Node}

@@ -4,11 +4,10 @@ use Rattle.std.proofs.lemmas.List.{length-map}
 use Rattle.std.proofs.lemmas.Result.{IfOk-weaker}
 use Rattle.semver.specs.Identifiers.{parts_of}
 use Rattle.semver.specs.Parse.{Parts}
-use Rattle.model.specs.Facts.{enabled}
+use Rattle.model.specs.Selection.{enabled, IsValidSelection, IsReached}
 use Rattle.model.specs.Content.{Content, Problem}
-use Rattle.model.specs.Selection.{IsValidSelection, IsReached}
 use Rattle.model.specs.Verdict.{VerdictFault}
-use Rattle.model.specs.WellFormed.{IsContent}
+use Rattle.model.specs.Order.{IsContent}
 use Rattle.model.proofs.Verdicts.{valid_iff}
 use Rattle.lockfile.specs.inner.Views.{package_view}
 use Rattle.manifest.specs.Manifests.{ManifestView}

@@ -2,12 +2,12 @@
 -- enabled dependencies alone.
 use Rattle.std.proofs.Common.{◌≡◌, ℕ, Some, slice_get}
 use Rattle.model.specs.Summary.{Dependency}
-use Rattle.model.specs.Facts.{Fact, here, on, enabled, Brings}
-use Rattle.model.specs.Facts.Holds.{starts, arrives, root_needs, needs, asks, root_wants, turns_on, enables}
-use Rattle.model.specs.Facts.Holds.{enables_for, wants, wants_weakly}
+use Rattle.model.specs.Selection.{Fact, here, on, enabled, Brings}
+use Rattle.model.specs.Selection.Holds.{starts, arrives, root_needs, needs, asks, root_wants, turns_on, enables}
+use Rattle.model.specs.Selection.Holds.{enables_for, wants, wants_weakly}
 use Rattle.model.specs.Content.{Content, Package, Problem}
 use Rattle.model.specs.Vertices.{Owner, owner_brings}
-use Rattle.model.specs.Stands.{IsLink, IsReachedFact, StandsFor, name_of}
+use Rattle.model.specs.Walk.{IsLink, IsReachedFact, StandsFor, name_of}
 
 -- ---- where fewer dependencies lead anywhere
 

@@ -5,10 +5,9 @@ use Rattle.std.proofs.lemmas.List.{length-map}
 use Rattle.std.proofs.lemmas.List.Elements.{All-map}
 use Rattle.std.proofs.lemmas.Option.{none-some, slice_get-map, slice_get_within}
 use Rattle.model.specs.Summary.{Summary, Dependency, has_feature}
-use Rattle.model.specs.Facts.{Fact, here, on, enabled, Brings}
+use Rattle.model.specs.Selection.{Fact, here, on, enabled, Brings, IsRootAt, IsPlace, HasTarget, IsFact}
 use Rattle.model.specs.Content.{Package, Content, Problem, brings_of, candidate_of, summary_of, summary_if, summary_at}
 use Rattle.model.specs.Content.{serves_if, last_serving, list_if, target_of}
-use Rattle.model.specs.Selection.{IsRootAt, IsPlace, HasTarget, IsFact}
 use Rattle.model.proofs.Orders.{last_is}
 use Rattle.model.proofs.Places.{some_at}
 use Rattle.manifest.specs.Manifests.{root_asks}

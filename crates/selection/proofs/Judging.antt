@@ -5,10 +5,9 @@ use Rattle.std.proofs.Common.{true≢false}
 use Rattle.std.proofs.lemmas.Option.{none-some, same_Some, slice_get-map, slice_get-get_or}
 use Rattle.std.proofs.lemmas.Bool.{not-true, not_from_false}
 use Rattle.model.specs.Summary.{Summary, Dependency, has_feature}
-use Rattle.model.specs.Facts.{enabled}
+use Rattle.model.specs.Selection.{enabled, IsFact, HasTarget, IsTarget}
 use Rattle.model.specs.Content.{Package, Content, Problem, is_root, candidate_of, summary_of, summary_if, summary_at}
 use Rattle.model.specs.Content.{last_serving, list_if, target_of}
-use Rattle.model.specs.Selection.{IsFact, HasTarget, IsTarget}
 use Rattle.model.specs.Verdict.{not_candidate, two_in_class, unmet, no_feature, wrong_list, unreached, IsFreeOf}
 use Rattle.model.proofs.Orders.{last_is}
 use Rattle.facts.specs.inner.Graphs.{NodeView, node_view, node_views, flag_at}

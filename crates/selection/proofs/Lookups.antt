@@ -4,15 +4,14 @@ use Rattle.std.proofs.Common.{◌≡◌, ℕ, Bool, true, false, cond, ◌||◌,
 use Rattle.std.proofs.Common.{option_and_then, is_some, refl, sym, ap, ◌∙◌, subst}
 use Rattle.std.specs.Borrow.{Bor}
 use Rattle.std.proofs.lemmas.Option.{none-some, same_Some}
-use Rattle.model.specs.Content.{Candidate, Package, Problem, same_option, candidates_of, candidate_at}
-use Rattle.model.specs.Content.{candidate_of, if_checksum, brings_of, is_root, summary_of}
+use Rattle.model.specs.Content.{Candidate, Package, Problem, same_option, candidates_of, candidate_at, candidate_of}
+use Rattle.model.specs.Content.{if_checksum, brings_of, is_root, summary_of}
 use Rattle.model.specs.Candidates.{Record, as_candidate}
 use Rattle.features.specs.Views.{summary_view, brings_view}
 use Rattle.features.specs.declared.dependency.Summary.{Summary}
 use Rattle.manifest.specs.Manifests.{ManifestView}
 use Rattle.catalogue.specs.Problems.{problem_in}
-use Rattle.catalogue.specs.Stores.{CatalogueView, candidates_at, record_at, rows_by_name}
-use Rattle.catalogue.specs.Views.{Said, said}
+use Rattle.catalogue.specs.Stores.{CatalogueView, candidates_at, record_at, rows_by_name, Said, said}
 use Rattle.catalogue.proofs.Lookups.{candidate_found}
 use Rattle.selection.specs.inner.Graphs.{is_known}
 

@@ -30,8 +30,8 @@ use Rattle.model.proofs.Mapped.{pairs_map}
 use Rattle.catalogue.proofs.Lookups.{candidates_are}
 use Rattle.manifest.specs.Manifests.{ManifestView}
 use Rattle.catalogue.specs.Problems.{problem_in}
-use Rattle.catalogue.specs.Stores.{CatalogueView, IsStore, Row, candidates_at, row_at, rows_by_name}
-use Rattle.catalogue.specs.Views.{AreRising, Said, said}
+use Rattle.catalogue.specs.Stores.{CatalogueView, IsStore, Row, candidates_at, row_at, rows_by_name, AreRising, Said}
+use Rattle.catalogue.specs.Stores.{said}
 use Rattle.catalogue.proofs.Rows.{item_at}
 use Rattle.selection.specs.inner.Contents.{AreMetVersions, Grows, IsCandidate, IsThere, candidate_owner, owner_if}
 use Rattle.selection.specs.inner.Contents.{owners_of}

@@ -3,7 +3,7 @@ use Rattle.std.proofs.Common.{◌≡◌, ℕ, true, not, ◌&&◌, List, Option,
 use Rattle.std.proofs.Common.{true≢false}
 use Rattle.model.specs.Summary.{same_text}
 use Rattle.model.specs.Content.{Package, Content, Problem, is_root, same_version}
-use Rattle.model.specs.WellFormed.{IsContent}
+use Rattle.model.specs.Order.{IsContent}
 use Rattle.model.proofs.Contents.{no_two_alike}
 use Rattle.model.proofs.Same.{both, text-same, version-same}
 use Rattle.selection.specs.inner.Graphs.{IsOnlyRoot}

@@ -14,8 +14,8 @@ use Rattle.model.specs.Walk.{first_match}
 use Rattle.model.proofs.Lists.{in_none, in_cons}
 use Rattle.model.proofs.Places.{got_in}
 use Rattle.catalogue.proofs.Lookups.{candidates_are}
-use Rattle.catalogue.specs.Ranks.{Ranked, records, same_rank, places_of, places_by_rank}
-use Rattle.catalogue.specs.Stores.{CatalogueView, ranked_at, rows_by_name}
+use Rattle.catalogue.specs.Stores.{Ranked, records, same_rank, places_of, places_by_rank, CatalogueView, ranked_at}
+use Rattle.catalogue.specs.Stores.{rows_by_name}
 use Rattle.catalogue.specs.declared.candidate.Rank.{Rank}
 use Rattle.catalogue.specs.declared.candidate.Rank.TheVariants.{Locked, Fits, Rest}
 use Rattle.catalogue.proofs.Preferences.{at_rank, map-reverse}

@@ -8,9 +8,8 @@ use Rattle.model.specs.Candidates.{RustVersion, Record, as_candidate, by_prefere
 use Rattle.model.proofs.Lists.{all_none, all_cons}
 use Rattle.model.proofs.Same.{text-same}
 use Rattle.catalogue.specs.Loads.{ranked_in, store_of, with_ranks}
-use Rattle.catalogue.specs.Ranks.{AreRanked, Ranked, rank_of, records}
+use Rattle.catalogue.specs.Stores.{AreRanked, Ranked, rank_of, records, Row, row_at}
 use Rattle.catalogue.specs.Runs.{Asked, candidates_in}
-use Rattle.catalogue.specs.Stores.{Row, row_at}
 use Rattle.catalogue.proofs.Preferences.{fitting_next, locked_first, others_last}
 use Rattle.selection.specs.Preferred.{preferred_by}
 use Rattle.catalogue.specs.Problems.{by_rank, preferred_in}

@@ -11,7 +11,7 @@ use Rattle.facts.specs.declared.rule.Rule.{Rule}
 use Rattle.model.specs.Content.{Package, Content, Problem}
 use Rattle.model.specs.Selection.{IsReached}
 use Rattle.model.specs.Selection.IsReached.{root as at_root, listed as by_list}
-use Rattle.model.specs.WellFormed.{IsContent}
+use Rattle.model.specs.Order.{IsContent}
 use Rattle.model.proofs.Contents.{within_at}
 use Rattle.model.proofs.Lists.{in_none, in_map, to_map}
 use Rattle.model.proofs.Members.{all_in}

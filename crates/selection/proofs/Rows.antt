@@ -3,8 +3,7 @@ use Rattle.std.proofs.Common.{◌≡◌, ℕ, true, false, cond, List, [], ◌�
 use Rattle.model.specs.Summary.{same_text}
 use Rattle.model.specs.Content.{Candidate, candidates_of}
 use Rattle.model.specs.Candidates.{Record, as_candidate}
-use Rattle.catalogue.specs.Ranks.{Ranked}
-use Rattle.catalogue.specs.Stores.{Row, row_at}
+use Rattle.catalogue.specs.Stores.{Ranked, Row, row_at}
 
 -- the candidates of a name where those of each row are put in an order
 pub row_of : (f : List Ranked → List Record) → f [] ≡ [] → (rows : List Row) (name : List ℕ)

@@ -11,10 +11,9 @@ use Rattle.model.specs.Summary.{same_text}
 use Rattle.model.specs.Content.{Package, Content, Problem, is_root}
 use Rattle.model.specs.Selection.{Class, patch, minor, major, class_of, IsOther}
 use Rattle.model.specs.Axioms.{is_lower}
-use Rattle.model.specs.Order.{text_cmp, version_cmp, source_cmp, package_cmp}
+use Rattle.model.specs.Order.{text_cmp, version_cmp, source_cmp, package_cmp, IsContent}
 use Rattle.model.specs.Verdict.{IsFreeOf, two_in_class}
 use Rattle.model.specs.Vertices.{same_class}
-use Rattle.model.specs.WellFormed.{IsContent}
 use Rattle.model.proofs.Contents.{older_first}
 use Rattle.model.proofs.Lists.{pairs_get}
 use Rattle.model.proofs.Orders.{class_above}

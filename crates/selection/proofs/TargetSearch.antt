@@ -15,8 +15,7 @@ use Rattle.semver.specs.Identifiers.{parts_text}
 use Rattle.semver.specs.Parse.{Held, Parts}
 use Rattle.model.specs.Summary.{Dependency, same_text}
 use Rattle.model.specs.Content.{Package, Content, serves_if, or_this, last_serving}
-use Rattle.model.specs.Order.{text_cmp, package_cmp, precedence, source_cmp, version_cmp}
-use Rattle.model.specs.WellFormed.{IsContent}
+use Rattle.model.specs.Order.{text_cmp, package_cmp, precedence, source_cmp, version_cmp, IsContent}
 use Rattle.model.proofs.Same.{text-same}
 use Rattle.model.proofs.Contents.{text-equal}
 use Rattle.model.proofs.Tests.{below-less, index-most}

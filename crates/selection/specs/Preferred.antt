@@ -4,8 +4,7 @@ use Rattle.std.specs.Prelude.{ℕ, List, map, Option, Some, None}
 use Rattle.model.specs.Content.{Candidate, Content, Problem}
 use Rattle.model.specs.Candidates.{RustVersion, as_candidate, by_preference, is_locked}
 use Rattle.model.specs.Selected.{IsPreferred}
-use Rattle.catalogue.specs.Ranks.{records}
-use Rattle.catalogue.specs.Stores.{CatalogueView}
+use Rattle.catalogue.specs.Stores.{records, CatalogueView}
 
 -- The same in the model's order of preference, for an old lock and a Rust version to go by. For those that a run loaded
 -- its index with, both are one: a law in `src/laws.rt`.

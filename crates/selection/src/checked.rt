@@ -2,7 +2,7 @@
 
 ghost use Rattle.std.specs.Prelude.{◌≡◌, ◌<◌, length, option_map, IfOk};
 ghost use Rattle.model.specs.Content.{Problem};
-ghost use Rattle.model.specs.WellFormed.{IsContent};
+ghost use Rattle.model.specs.Order.{IsContent};
 ghost use Rattle.selection.specs.inner.Places.{AreFindings, IsChecked, content_in, fault_of, lowest};
 
 use crate::classes_once::is_second;

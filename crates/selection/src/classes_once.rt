@@ -3,7 +3,7 @@
 ghost use Rattle.std.specs.Prelude.{◌≡◌, ◌↔◌, ◌<◌, ◌≤◌, ◌≢◌, ℕ, length, false, MatchOption};
 ghost use Rattle.model.specs.Content.{Problem};
 ghost use Rattle.model.specs.Verdict.{IsFreeOf, two_in_class};
-ghost use Rattle.model.specs.WellFormed.{IsContent};
+ghost use Rattle.model.specs.Order.{IsContent};
 ghost use Rattle.lockfile.specs.inner.Views.{package_view, package_views};
 ghost use Rattle.selection.specs.inner.Graphs.{IsOnlyRoot};
 ghost use Rattle.selection.specs.inner.Names.{is_like};

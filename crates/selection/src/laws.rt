@@ -5,17 +5,15 @@
 
 ghost use Rattle.std.specs.Prelude.{◌≡◌, ◌↔◌, ℕ, Bool, List, Option};
 ghost use Rattle.model.specs.Summary.{Dependency};
-ghost use Rattle.model.specs.Facts.{Fact};
+ghost use Rattle.model.specs.Selection.{Fact};
 ghost use Rattle.model.specs.Content.{Candidate, Content, Problem};
 ghost use Rattle.model.specs.Candidates.{RustVersion, is_locked};
-ghost use Rattle.model.specs.Stands.{IsReachedFact, StandsFor};
+ghost use Rattle.model.specs.Walk.{IsReachedFact, StandsFor, IsWalk, Picks};
 ghost use Rattle.model.specs.Vertices.{Owner};
-ghost use Rattle.model.specs.Walk.{IsWalk, Picks};
 ghost use Rattle.catalogue.specs.Loads.{store_of};
 ghost use Rattle.catalogue.specs.Problems.{preferred_in, problem_in};
-ghost use Rattle.catalogue.specs.Ranks.{AreRanked};
+ghost use Rattle.catalogue.specs.Stores.{AreRanked, CatalogueView, ranked_at};
 ghost use Rattle.catalogue.specs.Runs.{Asked};
-ghost use Rattle.catalogue.specs.Stores.{CatalogueView, ranked_at};
 ghost use Rattle.selection.specs.inner.Followed.{AreFollowed, PicksFollowed};
 ghost use Rattle.selection.specs.Preferred.{preferred_by};
 

@@ -2,7 +2,7 @@
 
 ghost use Rattle.std.specs.Prelude.{◌≡◌, ◌<◌, length, map, IfOk, is_some};
 ghost use Rattle.std.specs.List.{All, AllPairs};
-ghost use Rattle.model.specs.WellFormed.{IsContent};
+ghost use Rattle.model.specs.Order.{IsContent};
 ghost use Rattle.lockfile.specs.inner.Views.{package_view, package_views};
 ghost use Rattle.catalogue.specs.Problems.{problem_in};
 ghost use Rattle.facts.specs.inner.Graphs.{node_view, node_views};

@@ -3,7 +3,7 @@
 ghost use Rattle.std.specs.Prelude.{◌≡◌, ◌↔◌, ◌<◌, ◌++◌, ℕ, length, true, IfOk, OnOk};
 ghost use Rattle.model.specs.Content.{Problem};
 ghost use Rattle.model.specs.Selection.{IsReached};
-ghost use Rattle.model.specs.WellFormed.{IsContent};
+ghost use Rattle.model.specs.Order.{IsContent};
 ghost use Rattle.lockfile.specs.inner.Views.{package_views};
 ghost use Rattle.facts.specs.inner.Graphs.{flag_at};
 ghost use Rattle.selection.specs.inner.Graphs.{IsOnlyRoot};

@@ -3,7 +3,7 @@
 ghost use Rattle.std.specs.Prelude.{◌≡◌, ◌<◌, ◌≤◌, length, false, IfOk, slice_get};
 ghost use Rattle.std.specs.List.{All, AllPairs, AllWithin};
 ghost use Rattle.model.specs.Content.{last_serving, serves, serves_if};
-ghost use Rattle.model.specs.WellFormed.{IsContent};
+ghost use Rattle.model.specs.Order.{IsContent};
 ghost use Rattle.features.specs.Views.{dependency_view, dependency_views};
 ghost use Rattle.lockfile.specs.inner.Views.{package_view, package_views};
 ghost use Rattle.selection.specs.inner.Graphs.{targets_in};
@@ -38,7 +38,8 @@ pub(crate) fn targets(
 
 /// The target of a dependency: the place of the last package of the list that serves it, if one does.
 ///
-/// Those of its real name stand side by side, oldest first: log of the list, and as many as are of that name and no newer
+/// Those of its real name stand side by side, oldest first: log of the list, and as many as are of that name and no
+/// newer
 /// than what the requirement can match, down to the last that it does.
 pub fn target(content: &[Package], list: &[usize], dependency: &DependencyParts) -> Option<usize>
     requires content { IsContent (package_views content.now) }

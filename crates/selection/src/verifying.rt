@@ -4,7 +4,7 @@ ghost use Rattle.std.specs.Prelude.{◌≡◌, ◌↔◌, length, IfOk};
 ghost use Rattle.semver.specs.Identifiers.{parts_of};
 ghost use Rattle.model.specs.Content.{Problem};
 ghost use Rattle.model.specs.Selection.{IsValidSelection};
-ghost use Rattle.model.specs.WellFormed.{IsContent};
+ghost use Rattle.model.specs.Order.{IsContent};
 ghost use Rattle.catalogue.specs.Problems.{problem_in};
 ghost use Rattle.selection.specs.inner.Places.{content_in, AreFindings};
 ghost use Rattle.selection.specs.Verdicts.{IsFaultOf, IsVerdictOn};

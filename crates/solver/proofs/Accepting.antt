@@ -12,7 +12,7 @@ use Rattle.solver.specs.inner.Flats.{AreFlat, FlatView, IsUnrolled, SourceFits, 
 use Rattle.solver.specs.declared.flat.Source.{Source}
 use Rattle.solver.specs.declared.flat.Source.TheVariants.{Axiom, Combined}
 use Rattle.model.specs.Content.{Problem}
-use Rattle.model.specs.WellFormed.{IsCatalogue}
+use Rattle.model.specs.Order.{IsCatalogue}
 use Rattle.model.specs.Vertices.{Vertex}
 use Rattle.model.specs.Axioms.{Term, IsInstance, without_full}
 use Rattle.model.specs.Derivation.{states_at, SameAt, SameTerms, Step, given, combine, IsStep, AreSteps, none_yet}
@@ -23,7 +23,7 @@ use Rattle.model.proofs.Accepted.{instance_apart}
 use Rattle.numbering.specs.Numberings.{Numbering, IsNumbering}
 use Rattle.solver.specs.inner.Decoding.{terms_of, IsOver}
 use Rattle.solver.specs.inner.Steps.{AreGiven, IsGiven, IsBy, IsStepOf, AreStepsOf}
-use Rattle.vertices.specs.Kinds.{kind_at}
+use Rattle.vertices.specs.Texts.{kind_at}
 use Rattle.solver.proofs.Growth.{has_vertex}
 use Rattle.solver.proofs.Within.{instance_within}
 use Rattle.solver.proofs.Unique.{one_reading, says_over}

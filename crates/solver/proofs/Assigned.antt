@@ -11,12 +11,11 @@ use Rattle.propagation.specs.Promises.{IsSound}
 use Rattle.propagation.specs.Trails.{StepView, TrailView, set_of, space_of, step_at, undo}
 use Rattle.model.specs.Axioms.{owner_holds}
 use Rattle.model.specs.Content.{Content, Package, Problem}
-use Rattle.model.specs.Facts.{here}
+use Rattle.model.specs.Selection.{here, class_of}
 use Rattle.model.specs.inner.Search.{IsPresent, IsUnbroken, LeadsTo}
-use Rattle.model.specs.Selection.{class_of}
-use Rattle.model.specs.Stands.{StandsFor, name_of}
+use Rattle.model.specs.Walk.{StandsFor, name_of}
 use Rattle.model.specs.Vertices.{Owner, the_root, version_of, Vertex, State, absent, present, root, pkg, version}
-use Rattle.model.specs.WellFormed.{IsCatalogue}
+use Rattle.model.specs.Order.{IsCatalogue}
 use Rattle.model.proofs.Cut.{one_place, package_at, package_here}
 use Rattle.model.proofs.Reached.{reached_says, root_present}
 use Rattle.numbering.specs.inner.Assignments.{state_at, state_if, state_of}

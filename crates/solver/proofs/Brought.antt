@@ -2,14 +2,13 @@
 use Rattle.std.proofs.Common.{◌≡◌, ℕ, List, Bool, true, false, cond, Some, refl, sym, ◌∙◌, subst}
 use Rattle.model.specs.Summary.{Summary, Dependency, Entry, entries_at, feature, dependency, dependency_feature}
 use Rattle.model.specs.Summary.{weak_feature}
-use Rattle.model.specs.Facts.{Fact, Holds, here, on, enabled, Brings, Lists}
-use Rattle.model.specs.Facts.Holds.{starts, arrives, root_needs, needs, asks, root_wants, turns_on, enables}
-use Rattle.model.specs.Facts.Holds.{enables_for, wants, wants_weakly}
+use Rattle.model.specs.Selection.{Fact, Holds, here, on, enabled, Brings, Lists, HasTarget, IsRootAt}
+use Rattle.model.specs.Selection.Holds.{starts, arrives, root_needs, needs, asks, root_wants, turns_on, enables}
+use Rattle.model.specs.Selection.Holds.{enables_for, wants, wants_weakly}
 use Rattle.model.specs.Content.{Content, Problem, is_root, summary_at}
-use Rattle.model.specs.Selection.{HasTarget, IsRootAt}
-use Rattle.model.specs.WellFormed.{IsCatalogue}
+use Rattle.model.specs.Order.{IsCatalogue}
 use Rattle.model.specs.Vertices.{Owner, the_root, version_of, Vertex, State, owner_brings}
-use Rattle.model.specs.Stands.{StandsFor, name_of}
+use Rattle.model.specs.Walk.{StandsFor, name_of}
 use Rattle.model.specs.inner.Assignment.{IsOwnerAt}
 use Rattle.model.specs.inner.Search.{IsUnbroken, IsReachedFact, LeadsTo}
 use Rattle.model.proofs.Cut.{Next, Place, back, brings_back, next, one_place, package_at, package_here, root_back}

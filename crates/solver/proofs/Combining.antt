@@ -13,7 +13,7 @@ use Rattle.incompatibilities.specs.Incompatibilities.{IsCombination, unless_full
 use Rattle.incompatibilities.proofs.Lookups.{all_kept}
 use Rattle.incompatibilities.proofs.Broken.{lies_combined}
 use Rattle.model.specs.Content.{Problem}
-use Rattle.model.specs.WellFormed.{IsCatalogue}
+use Rattle.model.specs.Order.{IsCatalogue}
 use Rattle.model.specs.Vertices.{Vertex, State, same_vertex, has_state, space}
 use Rattle.model.specs.Axioms.{at, is_full}
 use Rattle.model.specs.Derivation.{SameAt, union_at, meet_at, combined_at, IsCombined}

@@ -133,7 +133,8 @@ module _ (es : List EntryView) (last left : ℕ) (ms : List Bool)
             | inl s ↦ subst (IsClosedAt es (with_parts (entry es left).origin ms)) (sym s) (record {
               fits = fits here;
               parts =
-                  parts_marked (entry es left).origin ms (subst (λ l. PartsBelow l (entry es left).origin) (sym now.long)
+                  parts_marked (entry es left).origin ms
+                      (subst (λ l. PartsBelow l (entry es left).origin) (sym now.long)
                   (parts_below es left (suc last) (entry es left).origin (fits here) (omega (arith, low))));
             })
             | inr o ↦ (let before = now.closed id (omega (arith, le, o)) old in record {

@@ -8,7 +8,7 @@ use Rattle.version_sets.specs.Sets.{Members}
 use Rattle.terms.specs.Terms.{TermView}
 use Rattle.incompatibilities.specs.Incompatibilities.{IsRising}
 use Rattle.model.specs.Content.{Problem}
-use Rattle.model.specs.WellFormed.{IsCatalogue}
+use Rattle.model.specs.Order.{IsCatalogue}
 use Rattle.model.specs.Vertices.{Vertex, State, same_state, same_vertex, space}
 use Rattle.model.specs.Axioms.{AreApart, IsVertex, Term, at}
 use Rattle.model.proofs.Lists.{in_first, in_rest, pairs_first, pairs_rest}

@@ -7,7 +7,7 @@ use Rattle.model.specs.Axioms.{IsInstance, Kind, Root, Needed, Target, HasFeatur
 use Rattle.model.specs.Axioms.{FeatureOnDependency, FeatureAsks, NewestListed, WeakFeature}
 use Rattle.numbering.specs.Numberings.{Numbering}
 use Rattle.solver.specs.inner.Steps.{AreGiven, IsGiven}
-use Rattle.vertices.specs.Kinds.{kind_at, kind_number}
+use Rattle.vertices.specs.Texts.{kind_at, kind_number}
 use Rattle.guiding.specs.inner.Guides.{IsOfInstance}
 
 pub kind_back : (k : Kind) → kind_at (kind_number k) ≡ k

@@ -8,7 +8,7 @@ use Rattle.solver.specs.inner.Flats.{AreFlat, FlatView, SourceFits, flat}
 use Rattle.solver.specs.declared.flat.Source.{Source}
 use Rattle.solver.specs.declared.flat.Source.TheVariants.{Axiom, Combined}
 use Rattle.model.specs.Content.{Problem}
-use Rattle.model.specs.WellFormed.{IsCatalogue}
+use Rattle.model.specs.Order.{IsCatalogue}
 use Rattle.model.specs.Derivation.{Step}
 use Rattle.numbering.specs.Numberings.{IsNumbering, Numbering}
 use Rattle.solver.specs.inner.Steps.{AreGiven, AreStepsOf, IsStepOf}

@@ -11,7 +11,7 @@ use Rattle.model.proofs.Same.{vertex-same, vertex-refl}
 use Rattle.vertices.specs.Orders.{state_cmp}
 use Rattle.derivations.specs.inner.Building.{ordered_term, ordered_terms}
 use Rattle.derivations.specs.inner.Derivations.{term_cmp}
-use Rattle.model.specs.Sorting.{in_order, put_in}
+use Rattle.model.specs.Order.{in_order, put_in}
 use Rattle.model.proofs.Sorting.{each-in_order}
 
 -- ---- states

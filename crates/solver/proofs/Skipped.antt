@@ -1,5 +1,6 @@
 -- A set's values, where places without one are passed over.
-use Rattle.std.proofs.Common.{◌≡◌, ℕ, zero, suc, ◌+◌, ◌-◌, ◌≤◌, List, [], ◌∷◌, ◌++◌, drop, length, replicate, true, false, not}
+use Rattle.std.proofs.Common.{◌≡◌, ℕ, zero, suc, ◌+◌, ◌-◌, ◌≤◌, List, [], ◌∷◌, ◌++◌, drop, length, replicate, true}
+use Rattle.std.proofs.Common.{false, not}
 use Rattle.std.proofs.Common.{refl, sym, ap, true≢false, ◌∙◌, arith}
 use Rattle.std.proofs.lemmas.Bool.{not-true}
 use Rattle.version_sets.specs.Sets.{Members, between, meets}
@@ -32,6 +33,8 @@ none_between (x ∷ xs) (true ∷ m) (suc from) width k (suc to) e is h =
 
 -- so what was made before is all of it there too
 pub skipped : {X : Type 0} (xs : List X) (m part : Members) (n from to : ℕ) (made : List X) → length xs ≡ length m
-    → from ≤ to → part ≡ between n from to → not (meets m part) ≡ true → IsChosenTo xs m from made → IsChosenTo xs m to made
+    → from ≤ to → part ≡ between n from to → not (meets m part) ≡ true → IsChosenTo xs m from made
+    → IsChosenTo xs m to made
 skipped xs m part n from to made e le is apart before = ap (λ ys. made ++ ys)
-    (none_between xs m from (to - from) (n - to) to e (omega (arith, le)) (ap (meets m) (sym is) ∙ not-true (meets m part) apart)) ∙ before
+    (none_between xs m from (to - from) (n - to) to e (omega (arith, le))
+          (ap (meets m) (sym is) ∙ not-true (meets m part) apart)) ∙ before

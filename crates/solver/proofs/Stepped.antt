@@ -5,7 +5,7 @@ use Rattle.propagation.specs.Trails.{TrailView}
 use Rattle.model.specs.Content.{Content, Problem}
 use Rattle.model.specs.inner.Search.{IsUnbroken}
 use Rattle.model.specs.Selection.{IsValidSelection}
-use Rattle.model.specs.WellFormed.{IsCatalogue}
+use Rattle.model.specs.Order.{IsCatalogue}
 use Rattle.numbering.specs.inner.Assignments.{IsOf, state_of}
 use Rattle.guiding.specs.inner.Following.{IsSelection}
 use Rattle.guiding.specs.declared.turns.Answer.{Answer}

@@ -4,7 +4,7 @@ use Rattle.solver.specs.inner.Flats.{FlatView}
 use Rattle.solver.specs.declared.flat.Source.{Source}
 use Rattle.solver.specs.declared.flat.Source.TheVariants.{Axiom, Combined}
 use Rattle.model.specs.Content.{Problem}
-use Rattle.model.specs.WellFormed.{IsCatalogue}
+use Rattle.model.specs.Order.{IsCatalogue}
 use Rattle.model.specs.Vertices.{Vertex}
 use Rattle.model.specs.Axioms.{AreApart, Kind, Term}
 use Rattle.model.specs.Derivation.{SameTerms, Step, combine, given}
@@ -13,7 +13,7 @@ use Rattle.derivations.specs.inner.Building.{AreNewTerms, ordered_terms}
 use Rattle.numbering.specs.Numberings.{IsNumbering, Numbering}
 use Rattle.solver.specs.inner.Decoding.{IsOver, terms_of}
 use Rattle.solver.specs.inner.Steps.{IsBy, IsStepOf}
-use Rattle.vertices.specs.Kinds.{kind_at}
+use Rattle.vertices.specs.Texts.{kind_at}
 use Rattle.solver.proofs.Whole.{terms_apart}
 use Rattle.solver.specs.Refusing.{IsStepWith}
 use Rattle.solver.proofs.NewTerms.{terms_new}

@@ -11,7 +11,7 @@ use Rattle.terms.specs.Terms.{TermView}
 use Rattle.incompatibilities.specs.Incompatibilities as numbered
 use Rattle.incompatibilities.specs.Incompatibilities.{unless_full}
 use Rattle.model.specs.Content.{Problem}
-use Rattle.model.specs.WellFormed.{IsCatalogue}
+use Rattle.model.specs.Order.{IsCatalogue}
 use Rattle.model.specs.Vertices.{Vertex, State, same_vertex, has_state, space}
 use Rattle.model.specs.Axioms.{Term, at, AreApart, is_full, without_full}
 use Rattle.model.specs.Derivation.{SameAt, SameTerms}

@@ -5,8 +5,10 @@
 //! vertices and states become the vertices and states that they stand for, and the builder of `derivations` puts them
 //! into the written order.
 //!
-//! What is hard is what the builder asks for: that each vertex and state is what its own text reads as. So it is for all
-//! names, versions and numbers of dependencies of a manifest and a loaded index (`parts_are_valid` of `catalogue`), which
+//! What is hard is what the builder asks for: that each vertex and state is what its own text reads as. So it is for
+//! all
+//! names, versions and numbers of dependencies of a manifest and a loaded index (`parts_are_valid` of `catalogue`),
+//! which
 //! `refusal` asks for. Each vertex that is spoken of is spelt once for all steps (`spaces.rt`), in the order of their
 //! texts (`listing.rt`), in which terms stand.
 //!

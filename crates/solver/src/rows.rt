@@ -1,8 +1,10 @@
 //! Incompatibilities over numbers, and how they came about, as steps of a derivation.
 //!
 //! A search leaves a store of entries over numbers, each with its chain; a derivation has steps over vertices and
-//! states, which somebody checks who knows no numbers. An entry is unrolled first (`unrolling.rt`), into a row of axioms
-//! and combinations. The vertex of a combination has to have a number, which it has as one at which the first of the two
+//! states, which somebody checks who knows no numbers. An entry is unrolled first (`unrolling.rt`), into a row of
+//! axioms
+//! and combinations. The vertex of a combination has to have a number, which it has as one at which the first of the
+//! two
 //! entries has a term.
 //!
 //! A layer above may rely on this: a row, each of it as the step that it is decoded to, is an accepted derivation, if
@@ -11,7 +13,7 @@
 ghost use Rattle.std.specs.Prelude.{◌≡◌, ℕ, [], List};
 ghost use Rattle.model.specs.Content.{Problem};
 ghost use Rattle.model.specs.Derivation.{IsAccepted, Step};
-ghost use Rattle.model.specs.WellFormed.{IsCatalogue};
+ghost use Rattle.model.specs.Order.{IsCatalogue};
 ghost use Rattle.incompatibilities.specs.Stores.{EntryView, entry};
 ghost use Rattle.solver.specs.inner.Flats.{FlatView, IsUnrolled};
 ghost use Rattle.numbering.specs.Numberings.{IsNumbering, Numbering};

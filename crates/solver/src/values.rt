@@ -19,28 +19,9 @@ fn push_if<T: Copy>(made: &mut Vec<T>, value: T, is_chosen: bool) -> Result<(), 
     Ok(())
 }
 
-/// Puts those of the values from one place on and below another at the end whose places a set has.
-fn push_each<T: Copy, S: States + Drop>(
-    values: &[T],
-    set: &S,
-    from: u32,
-    to: u32,
-    made: &mut Vec<T>,
-) -> Result<(), AllocError>
-    requires long { length values.now ≡ length (S.tests set.now) }
-    requires rising { from ≤ to }
-    requires within { to ≤ length values.now }
-    requires before { IsChosenTo values.now (S.tests set.now) from made.old.items }
-    ensures { OnOk result (IsChosenTo values.now (S.tests set.now) to made.new.items) }
-{
-    'numbers: for number in from..to {
-        push_if(made, values[number as usize], set.member(number))?;
-    }
-    Ok(())
-}
-
-/// Does the same. Of many places it asks for all at once, and for each half if the set has one: a set of a few numbers
-/// out of n is gone over by their count times log n.
+/// Puts those of the values from one place on and below another at the end whose places a set has. Of many places it
+/// asks for all at once, and for each half if the set has one: a set of a few numbers out of n is gone over by their
+/// count times log n.
 fn push_chosen<T: Copy, S: States + Drop>(
     alloc: Global,
     values: &[T],
@@ -56,7 +37,10 @@ fn push_chosen<T: Copy, S: States + Drop>(
     ensures { OnOk result (IsChosenTo values.now (S.tests set.now) to made.new.items) }
 {
     if to - from <= FEW {
-        return push_each(values, set, from, to, made);
+        'numbers: for number in from..to {
+            push_if(made, values[number as usize], set.member(number))?;
+        }
+        return Ok(());
     }
     if set.disjoint(&S::of_range(alloc, set.universe(), from, to)?) {
         return Ok(());

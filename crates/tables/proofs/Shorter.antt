@@ -2,15 +2,15 @@
 use Rattle.std.proofs.Common.{◌≡◌, ℕ, zero, suc, ◌+◌, ◌<◌, ◌≤◌, Bool, true, false, cond, ◌==◌, ◌&&◌, List, [], ◌∷◌}
 use Rattle.std.proofs.Common.{◌++◌}
 use Rattle.std.proofs.Common.{length, drop, slice_index, nat_lt, Option, Some, None, is_some, unwrap_or, option_map}
-use Rattle.std.proofs.Common.{option_and_then, encode_utf8, refl, arith, eqb-true, length-append}
+use Rattle.std.proofs.Common.{option_and_then, encode_utf8, arith, eqb-true, length-append}
 use Rattle.std.proofs.lemmas.List.{length-drop}
 use Rattle.std.specs.List.{prefix_len}
-use Rattle.toml_parser.specs.Lexical.{Read, equals, dot, quote, backslash, line_feed, first, is_bare, is_ws}
+use Rattle.toml_parser.specs.Lexical.{Read, dot, backslash, line_feed, first, is_bare, is_ws}
 use Rattle.toml_parser.specs.Lexical.{split_while}
-use Rattle.toml_parser.specs.Lexical.{skip_ws, skip_turn, skip_from, skip_blank, starts_newline}
+use Rattle.toml_parser.specs.Lexical.{skip_ws, skip_turn, skip_from, starts_newline}
 use Rattle.toml_parser.specs.Strings.{hex_len, hex_escape, escape_char, escape, is_plain, at_delims, special, prepend}
 use Rattle.toml_parser.specs.Strings.{after_piece, body, trim_newline, one_line, quoted, starts_string, simple_key}
-use Rattle.toml_parser.specs.Strings.{Key, key_after, key, recursion_limit, simple_escape, is_scalar}
+use Rattle.toml_parser.specs.Strings.{Key, key_after, key, simple_escape}
 use Rattle.toml_parser.specs.Numbers.{word_len, word_value, unquoted}
 use Rattle.toml_parser.specs.declared.scalar.Scalar.{Scalar}
 
@@ -130,11 +130,14 @@ piece-left delim multi n (Some bytes) rest text h more = prepend-left bytes text
 body-left : (delim : ℕ) (multi : Bool) (n : ℕ) (text : List ℕ) → If (IsLeft text) (body delim multi n text)
 unfolding body
 body-left delim multi zero text = tt
-body-left delim multi (suc n) text = by (λ o rest h. piece-left delim multi n o rest text h (body-left delim multi n rest))
+body-left delim multi (suc n) text =
+    by (λ o rest h. piece-left delim multi n o rest text h (body-left delim multi n rest))
     (is_plain delim multi (first text))
   where
     by : ((o : Option (List ℕ)) (rest : List ℕ) → length rest ≤ length text
-        → If (IsLeft text) (after_piece (body delim multi n) o rest)) → (b : Bool) → If (IsLeft text) (cond b (prepend (first text ∷ []) (body delim multi n (drop 1 text)))
+        → If (IsLeft text) (after_piece (body delim multi n) o rest))
+        → (b : Bool)
+        → If (IsLeft text) (cond b (prepend (first text ∷ []) (body delim multi n (drop 1 text)))
         (option_and_then (λ p. after_piece (body delim multi n) p.0 p.1) (special delim multi text)))
     by piece true = piece (Some (first text ∷ [])) (drop 1 text) (drop-short 1 text)
     by piece false = if_then (IsLeft text) (IsLeft text) (λ p. after_piece (body delim multi n) p.0 p.1)
@@ -203,7 +206,8 @@ key-after (suc n) path text =
   where
     by : (part rest : List ℕ) → length rest ≤ length text
         → If (IsKeyLeft (n + length (path ++ part ∷ [])) (skip_ws (drop 1 rest)))
-        (key_after n (path ++ part ∷ []) (skip_ws (drop 1 rest))) → (b : Bool) → If (IsKeyLeft (suc n + length path) text)
+        (key_after n (path ++ part ∷ []) (skip_ws (drop 1 rest))) → (b : Bool)
+            → If (IsKeyLeft (suc n + length path) text)
         (cond b (key_after n (path ++ part ∷ []) (skip_ws (drop 1 rest))) (Some ((path, part), rest)))
     by part rest h more true =
         let after = skip_ws (drop 1 rest) in

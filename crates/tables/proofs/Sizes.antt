@@ -1,4 +1,5 @@
--- The tables in a text have few members together: at most 162 for each byte. A pair adds itself and a table for each part
+-- The tables in a text have few members together: at most 162 for each byte. A pair adds itself and a table for each
+-- part
 -- of its key and of the header that it stands under, and these have at most 81 parts each.
 use Rattle.std.proofs.Common.{◌≡◌, ℕ, zero, suc, ◌+◌, ◌*◌, ◌<◌, ◌≤◌, Bool, true, false, cond, ◌==◌, ◌&&◌, List, [], ◌∷◌}
 use Rattle.std.proofs.Common.{◌++◌, length, drop, slice_index, Option, Some, None, option_map, option_and_then, refl}
@@ -22,7 +23,7 @@ use Rattle.toml.specs.Tables.{node, get_node, insert, replace, close_node, close
 use Rattle.toml.specs.Tables.{by_header}
 use Rattle.toml.specs.Tables.{by_dot, along_header, along_dots, Definition, key_value, std_table, array_table}
 use Rattle.toml.specs.Tables.{Expression}
-use Rattle.toml.specs.Tables.{new_node, redefine, at_found, at_key, put, Document, define_as, define}
+use Rattle.toml.specs.Tables.{new_node, redefine, at_found, at_key, put, Document, define}
 use Rattle.toml.specs.Parse.{read_map, after_byte, after_element, key_equals, keyval, items, members, scalar_data, atom}
 use Rattle.toml.specs.Parse.{val, header_key, expression, ends_line, line, lines, skip_bom, parse_document}
 use Rattle.tables.proofs.Shorter.{If, if_then, if_map, if_weaker, IsLeft, drop-short, ws-short, skip-short, quoted-left}
@@ -144,7 +145,8 @@ module _ (n : ℕ) (edit : Edit) (adds : Adds n edit) where
   by_header-grown : (k : List ℕ) (ns : Nodes) (o : Option Node) → get_node k ns ≡ o
       → If (IsGrown (suc n) ns) (by_header k edit ns o)
   by_header-grown k ns None found = new-grown k implicit ns
-  by_header-grown k ns (Some x) found = grown_more n (suc n) ns (option_map (λ new. replace k new ns) (header_node edit x))
+  by_header-grown k ns (Some x) found =
+      grown_more n (suc n) ns (option_map (λ new. replace k new ns) (header_node edit x))
       (omega arith) (replaced n k ns x (header_node edit x) found (header-grown x))
 
   by_dot-grown : (k : List ℕ) (ns : Nodes) (o : Option Node) → get_node k ns ≡ o
@@ -158,7 +160,8 @@ along_header-adds : (path : List (List ℕ)) (n : ℕ) (edit : Edit) → Adds n 
 unfolding along_header
 along_header-adds [] n edit adds ns = grown_more n (0 + n) ns (edit ns) (omega arith) (adds ns)
 along_header-adds (k ∷ path) n edit adds ns =
-    grown_more (suc (length path + n)) (suc (length path) + n) ns (by_header k (along_header path edit) ns (get_node k ns))
+    grown_more (suc (length path + n)) (suc (length path) + n) ns
+        (by_header k (along_header path edit) ns (get_node k ns))
     (omega arith) (by_header-grown (length path + n) (along_header path edit) (along_header-adds path n edit adds) k ns
     (get_node k ns) refl)
 

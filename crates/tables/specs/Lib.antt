@@ -1,3 +1,3 @@
-pub use Rattle.model.specs.Optional
+pub use Rattle.model.specs.Content
 pub mod Rows
 pub mod inner

@@ -3,7 +3,7 @@
 ghost use Rattle.std.specs.Prelude.{◌≡◌, IfOk, option_map};
 ghost use Rattle.toml.specs.Parse.{parse_document};
 ghost use Rattle.toml.specs.View.{table_view};
-ghost use Rattle.model.specs.Optional.{of_utf8};
+ghost use Rattle.model.specs.Content.{of_utf8};
 
 use std::alloc::{AllocError, Global};
 use toml::Table;

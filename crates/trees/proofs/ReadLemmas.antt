@@ -18,7 +18,7 @@ use Rattle.json.specs.Json as json
 use Rattle.json.specs.Tree.{depth}
 use Rattle.json.proofs.Nesting.{value-depth}
 use Rattle.json.proofs.Printed.Trees.{value-json_tokens}
-use Rattle.model.specs.Optional.{passes}
+use Rattle.model.specs.Content.{passes}
 use Rattle.model.proofs.Utf8.{utf8-read, utf8-refused}
 use Rattle.trees.specs.inner.Parts.{json_within, read_within, data_within}
 use Rattle.trees.specs.Trees.{numbers_fit, data_of, tokens_view}

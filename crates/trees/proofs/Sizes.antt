@@ -198,7 +198,8 @@ mutual
       (member-within (length (json_tokens j)) (length (members_tokens ms)) k ms found (of_json j) (json-within j)
       (members-within ms))
 
-whole-within : (n : ℕ) (ts : List Token) → length ts ≤ n → (o : Option (json.Json × List Token)) → value max_depth ts ≡ o
+whole-within : (n : ℕ) (ts : List Token) → length ts ≤ n
+    → (o : Option (json.Json × List Token)) → value max_depth ts ≡ o
     → IsWithin size n (option_and_then of_json (option_and_then (λ p. if_last p.0 p.1) o))
 whole-within n ts le None e = tt
 whole-within n ts le (Some (j, [])) e =

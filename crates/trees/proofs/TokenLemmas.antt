@@ -12,7 +12,7 @@ use Rattle.json.specs.Tree.{json_tokens, items_tokens, members_tokens, depth, it
 use Rattle.json.proofs.Grammar.{closed_array, read_key_is}
 use Rattle.json.proofs.Printed.Trees.{value-json_tokens}
 use Rattle.serde_json.specs.Read.{number_of}
-use Rattle.model.specs.Optional.{passes}
+use Rattle.model.specs.Content.{passes}
 use Rattle.trees.specs.inner.Tokens.{first_items, has_items, items_from, first_members, has_members, members_from}
 use Rattle.trees.specs.inner.Tokens.{first_value, begins, json_from}
 use Rattle.trees.specs.Trees.{numbers_fit, items_fit, members_fit}

@@ -1,29 +1,43 @@
 -- What a value in a text of JSON stands for: the value that `serde_json` reads there, where of a key that comes twice
 -- the last stays.
-use Rattle.std.specs.Prelude.{◌≡◌, ℕ, Bool, true, false, ◌&&◌, negsuc, List, [], ◌∷◌, Option, Some, None, is_some}
-use Rattle.std.specs.Prelude.{unwrap_or, map, string_bytes}
+use Rattle.std.specs.Prelude.{ℕ, Bool, ◌==◌, ◌||◌, List, ◌≡◌, true, false, ◌&&◌, negsuc, [], ◌∷◌, Option, Some, None}
+use Rattle.std.specs.Prelude.{is_some, unwrap_or, map, string_bytes}
+use Rattle.std.specs.List.{list_all}
 use Rattle.std.specs.Borrow.{Bor}
 use Rattle.std.specs.Slice.Iter.{iter_rest}
 use Rattle.std.specs.Ordering.{is_lt, nat_cmp}
 use Rattle.std.specs.Cmp.Lexicographic.{slice_cmp}
-use Rattle.json.specs.Json as json
 use Rattle.json.specs.Token.{Token}
 use Rattle.serde_json.specs.Data.{Num, negative, Data, null, boolean, number, string, array, object, Items, no_items}
 use Rattle.serde_json.specs.Data.{item, Members, no_members, member, put}
 use Rattle.serde_json.specs.Read.{number_of, read}
 use Rattle.serde_json.specs.View.{view, items_view}
-use Rattle.model.specs.Optional.{of_utf8}
+use Rattle.model.specs.Content.{of_utf8}
 use Rattle.trees.specs.inner.Tokens.{json_from, items_from, members_from}
 use Rattle.trees.specs.declared.fault.TreeFault.{TreeFault}
 use Rattle.trees.specs.declared.fault.TreeFault.TheVariants.{OutOfMemory, NotJson}
 use Rattle.trees.specs.declared.reading.TextRead.{TextRead}
 use Rattle.trees.specs.declared.reading.TextRead.TheVariants.{Tape, Long}
 use Rattle.trees.specs.declared.tree.Tree.{Tree}
-use Rattle.trees.specs.declared.tree.Tree.TheVariants as tree
 use Rattle.trees.specs.declared.tree.Elements.{Elements}
-use Rattle.trees.specs.declared.tree.Elements.TheVariants as elements
 use Rattle.trees.specs.declared.tree.Entries.{Entries}
+use Rattle.json.specs.Json as json
+use Rattle.trees.specs.declared.tree.Tree.TheVariants as tree
+use Rattle.trees.specs.declared.tree.Elements.TheVariants as elements
 use Rattle.trees.specs.declared.tree.Entries.TheVariants as entries
+
+-- ---- Where lines of JSON end, and which of them say nothing.
+
+-- a line ends with `\n`
+abbrev pub is_line_end : ℕ → Bool
+is_line_end b = b == 10
+
+-- a space, a tab or `\r`
+abbrev pub is_blank_byte : ℕ → Bool
+is_blank_byte b = b == 32 || (b == 9 || b == 13)
+
+abbrev pub is_blank : List ℕ → Bool
+is_blank line = list_all is_blank_byte line
 
 abbrev pub wants_memory : TreeFault → Bool
 wants_memory OutOfMemory = true

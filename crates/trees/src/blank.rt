@@ -1,7 +1,7 @@
 //! Lines that say nothing, which readers of lines pass over.
 
 ghost use Rattle.std.specs.Prelude.{◌≡◌};
-ghost use Rattle.trees.specs.Lines.{is_blank, is_blank_byte};
+ghost use Rattle.trees.specs.Trees.{is_blank, is_blank_byte};
 
 /// Whether a line has spaces, tabs and `\r` alone.
 pub fn is_blank(line: &[u8]) -> bool

@@ -4,7 +4,7 @@ use Rattle.std.proofs.Common.{◌||◌, ◌==◌, Some, None, Ok, refl, ap, ap�
 use Rattle.std.proofs.lemmas.Bool.{eq-eqb, and_parts, or_parts}
 use Rattle.std.proofs.lemmas.List.Folds.{list_any-append}
 use Rattle.std.specs.List.{list_any, list_all, position_or_len, before_first, after_first}
-use Rattle.features.specs.Entries.{around}
+use Rattle.features.specs.Names.{around}
 use Rattle.vertices.specs.Texts.{parted}
 
 -- the text has no such byte

@@ -13,9 +13,8 @@ use Rattle.semver.specs.Grammar.{IsValid}
 use Rattle.semver.specs.Parse.{Parts}
 use Rattle.model.specs.Outcome.{◌>>=◌}
 use Rattle.model.specs.Selection.{Class, patch, minor, major, class_of}
-use Rattle.features.specs.Entries.{after_text}
-use Rattle.classes.specs.Classes.{class_text}
-use Rattle.classes.specs.Numbers.{is_plain_number, number_of}
+use Rattle.features.specs.Names.{after_text}
+use Rattle.classes.specs.Classes.{class_text, is_plain_number, number_of}
 use Rattle.vertices.specs.Texts.{above_zero, class_or, class_of_text, index_of}
 use Rattle.vertices.specs.inner.Valid.{IsValidClass, IsIndex}
 

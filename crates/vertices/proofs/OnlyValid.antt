@@ -10,9 +10,8 @@ use Rattle.model.specs.Outcome.{◌>>=◌}
 use Rattle.model.specs.Summary.{same_text}
 use Rattle.model.specs.Selection.{Class, patch, minor, major}
 use Rattle.model.specs.Vertices.{Owner, the_root, version_of, Vertex, root}
-use Rattle.features.specs.Entries.{after_text}
-use Rattle.features.specs.Names.{is_package_name, is_feature_name}
-use Rattle.classes.specs.Numbers.{is_plain_number, number_of}
+use Rattle.features.specs.Names.{after_text, is_package_name, is_feature_name}
+use Rattle.classes.specs.Classes.{is_plain_number, number_of}
 use Rattle.vertices.specs.Texts.{Reading, needed, parted, package_name_of, feature_name_of, version_of_text, above_zero}
 use Rattle.vertices.specs.Texts.{lesser_class, class_or, class_of_text, index_of, named_version_of_text, owner_of_text}
 use Rattle.vertices.specs.Texts.{package_of_text, dependency_of_text, feature_of_text, ask_of_text, kinded_vertex}

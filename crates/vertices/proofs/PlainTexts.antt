@@ -22,14 +22,12 @@ use Rattle.model.specs.Summary.{same_text as same_bytes}
 use Rattle.model.specs.Selection.{Class, minor, major, patch}
 use Rattle.model.specs.Vertices.{Owner, the_root, version_of, Vertex, root, pkg, dep, feat, ask, State, absent, present}
 use Rattle.model.specs.Vertices.{version, in_class}
-use Rattle.features.specs.Entries.{after_text}
-use Rattle.features.specs.Names.{is_package_name, is_package_byte, is_feature_name, is_feature_byte}
-use Rattle.classes.specs.Numbers.{is_plain_number, number_of}
-use Rattle.vertices.specs.Kinds.{kind_text}
-use Rattle.vertices.specs.Texts.{needed, parted, package_name_of, feature_name_of, version_of_text, above_zero}
-use Rattle.vertices.specs.Texts.{lesser_class, class_or, class_of_text, index_of, named_version_of_text, owner_of_text}
-use Rattle.vertices.specs.Texts.{package_of_text, dependency_of_text, feature_of_text, ask_of_text, kinded_vertex}
-use Rattle.vertices.specs.Texts.{vertex_of_text, present_of_text, value_of_text, state_of_text}
+use Rattle.features.specs.Names.{after_text, is_package_name, is_package_byte, is_feature_name, is_feature_byte}
+use Rattle.classes.specs.Classes.{is_plain_number, number_of}
+use Rattle.vertices.specs.Texts.{kind_text, needed, parted, package_name_of, feature_name_of, version_of_text}
+use Rattle.vertices.specs.Texts.{above_zero, lesser_class, class_or, class_of_text, index_of, named_version_of_text}
+use Rattle.vertices.specs.Texts.{owner_of_text, package_of_text, dependency_of_text, feature_of_text, ask_of_text}
+use Rattle.vertices.specs.Texts.{kinded_vertex, vertex_of_text, present_of_text, value_of_text, state_of_text}
 use Rattle.vertices.specs.declared.fault.TextFault.TheVariants.{NotAText}
 use Rattle.vertices.proofs.Bound.{steps, some, chosen}
 use Rattle.vertices.proofs.MadeOf.{named_version, package_made, dependency_made, feature_made, ask_made}

@@ -22,10 +22,8 @@ use Rattle.model.specs.Summary.{same_text as same_bytes}
 use Rattle.model.specs.Vertices.{Owner, the_root, version_of, Vertex, root, pkg, dep, feat, ask, State, absent, present}
 use Rattle.model.specs.Vertices.{version, in_class}
 use Rattle.model.specs.Selection.{Class, patch, minor, major}
-use Rattle.features.specs.Entries.{after_text, around}
-use Rattle.features.specs.Names.{is_package_name, is_feature_name}
-use Rattle.classes.specs.Classes.{class_text}
-use Rattle.classes.specs.Numbers.{is_plain_number, number_of}
+use Rattle.features.specs.Names.{after_text, around, is_package_name, is_feature_name}
+use Rattle.classes.specs.Classes.{class_text, is_plain_number, number_of}
 use Rattle.vertices.specs.Texts.{needed, parted, package_name_of, feature_name_of, version_or, version_of_text}
 use Rattle.vertices.specs.Texts.{above_zero, lesser_class, class_or, class_of_text, index_of, named_version_of_text}
 use Rattle.vertices.specs.Texts.{owner_text, owner_of_text, vertex_text, package_of_text, dependency_of_text}

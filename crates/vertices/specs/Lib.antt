@@ -1,4 +1,3 @@
-pub mod Kinds
 pub mod Texts
 pub mod Orders
 pub mod Views

@@ -1,23 +1,78 @@
 -- Which texts are vertices and states, and which vertices and states they are (the formats are this project's; versions
 -- as in SemVer 2.0.0, section 2).
-use Rattle.std.specs.Prelude.{◌≡◌, ℕ, Bool, true, false, if◌then◌else◌, nat_lt, List, ◌∷◌, ◌++◌, Option, Some, None}
-use Rattle.std.specs.Prelude.{Result}
-use Rattle.std.specs.Prelude.{Ok, Err, codes, decimal}
+use Rattle.std.specs.Prelude.{ℕ, List, [], ◌∷◌, Option, codes, slice_index_or, ◌≡◌, Bool, true, false, if◌then◌else◌}
+use Rattle.std.specs.Prelude.{nat_lt, ◌++◌, Some, None, Result, Ok, Err, decimal}
+use Rattle.std.specs.List.{find}
+use Rattle.model.specs.Summary.{same_text}
+use Rattle.vertices.specs.declared.kind.Kind.{Kind}
+use Rattle.vertices.specs.declared.kind.Kind.TheVariants.{Root, Needed, Target, HasFeature, WantsFeature}
+use Rattle.vertices.specs.declared.kind.Kind.TheVariants.{FeatureOnFeature, FeatureOnDependency, FeatureAsks}
+use Rattle.vertices.specs.declared.kind.Kind.TheVariants.{NewestListed, WeakFeature}
 use Rattle.std.specs.Option.{ok_or}
 use Rattle.semver.specs.Identifiers.{parts_text}
 use Rattle.semver.specs.Parse.{Parts, version_parts}
 use Rattle.semver.specs.declared.error.Error.{Error}
 use Rattle.model.specs.Outcome.{◌>>=◌}
-use Rattle.model.specs.Summary.{same_text}
 use Rattle.model.specs.Selection.{Class, patch, minor, major}
 use Rattle.model.specs.Vertices.{Owner, the_root, version_of, Vertex, root, pkg, dep, feat, ask, State, absent, present}
 use Rattle.model.specs.Vertices.{version, in_class}
-use Rattle.features.specs.Entries.{after_text, around}
-use Rattle.features.specs.Names.{is_package_name, is_feature_name}
-use Rattle.classes.specs.Classes.{class_text}
-use Rattle.classes.specs.Numbers.{number_of}
+use Rattle.features.specs.Names.{after_text, around, is_package_name, is_feature_name}
+use Rattle.classes.specs.Classes.{class_text, number_of}
 use Rattle.vertices.specs.declared.fault.TextFault.{TextFault}
 use Rattle.vertices.specs.declared.fault.TextFault.TheVariants.{OutOfMemory, NotAText}
+use Rattle.model.specs.Axioms as model
+
+-- ---- The kinds of axioms and their texts (the kinds are this project's).
+
+abbrev pub kind_view : Kind → model.Kind
+kind_view Root = model.Root
+kind_view Needed = model.Needed
+kind_view Target = model.Target
+kind_view HasFeature = model.HasFeature
+kind_view WantsFeature = model.WantsFeature
+kind_view FeatureOnFeature = model.FeatureOnFeature
+kind_view FeatureOnDependency = model.FeatureOnDependency
+kind_view FeatureAsks = model.FeatureAsks
+kind_view NewestListed = model.NewestListed
+kind_view WeakFeature = model.WeakFeature
+
+abbrev pub kind_text : model.Kind → List ℕ
+kind_text model.Root = codes "X0"
+kind_text model.Needed = codes "X1"
+kind_text model.Target = codes "X2"
+kind_text model.HasFeature = codes "X3"
+kind_text model.WantsFeature = codes "X4"
+kind_text model.FeatureOnFeature = codes "X5"
+kind_text model.FeatureOnDependency = codes "X6"
+kind_text model.FeatureAsks = codes "X7"
+kind_text model.NewestListed = codes "X8"
+kind_text model.WeakFeature = codes "X9"
+
+abbrev pub kinds : List model.Kind
+kinds = model.Root ∷ model.Needed ∷ model.Target ∷ model.HasFeature ∷ model.WantsFeature ∷ model.FeatureOnFeature
+    ∷ model.FeatureOnDependency ∷ model.FeatureAsks ∷ model.NewestListed ∷ model.WeakFeature ∷ []
+
+-- the kind that a text is
+abbrev pub kind_of_text : List ℕ → Option model.Kind
+kind_of_text text = find (λ k. same_text text (kind_text k)) kinds
+
+-- ---- by number, as a search keeps them
+
+abbrev pub kind_number : model.Kind → ℕ
+kind_number model.Root = 0
+kind_number model.Needed = 1
+kind_number model.Target = 2
+kind_number model.HasFeature = 3
+kind_number model.WantsFeature = 4
+kind_number model.FeatureOnFeature = 5
+kind_number model.FeatureOnDependency = 6
+kind_number model.FeatureAsks = 7
+kind_number model.NewestListed = 8
+kind_number model.WeakFeature = 9
+
+-- the kind that a number is; the root's where none is
+abbrev pub kind_at : ℕ → model.Kind
+kind_at n = slice_index_or kinds n model.Root
 
 -- ---- the texts
 

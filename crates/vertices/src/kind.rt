@@ -1,7 +1,7 @@
 //! The kinds of axioms, and the codes that they are printed as.
 
 ghost use Rattle.std.specs.Prelude.{◌≡◌, option_map};
-ghost use Rattle.vertices.specs.Kinds.{kind_at, kind_number, kind_of_text, kind_text, kind_view};
+ghost use Rattle.vertices.specs.Texts.{kind_at, kind_number, kind_of_text, kind_text, kind_view};
 
 use std::fmt;
 
@@ -111,7 +111,7 @@ impl Kind {
 
 impl fmt::Display for Kind {
     ghost use Rattle.std.specs.Prelude.{Some};
-    ghost use Rattle.vertices.specs.Kinds.{kind_view, kind_text};
+    ghost use Rattle.vertices.specs.Texts.{kind_view, kind_text};
 
     ghost output = { λ kind. Some (kind_text (kind_view kind)) };
 

@@ -4,9 +4,8 @@ ghost use Rattle.std.specs.Prelude.{◌≡◌, ◌≢◌, ◌⊎◌, codes, opti
 ghost use Rattle.semver.specs.Identifiers.{parts_of};
 ghost use Rattle.semver.specs.Parse.{memory_error};
 ghost use Rattle.model.specs.Outcome.{Gives};
-ghost use Rattle.features.specs.Entries.{after_text, around};
-ghost use Rattle.classes.specs.Classes.{class_view};
-ghost use Rattle.classes.specs.Numbers.{number_of};
+ghost use Rattle.features.specs.Names.{after_text, around};
+ghost use Rattle.classes.specs.Classes.{class_view, number_of};
 ghost use Rattle.vertices.specs.Texts.{wants_memory, needed, parted, package_name_of, feature_name_of, version_of_text};
 ghost use Rattle.vertices.specs.Texts.{class_of_text, lesser_class, above_zero, index_of};
 

@@ -3,8 +3,7 @@ use Rattle.std.specs.Prelude.{◌≡◌, ◌&&◌, nat_eq, ℕ, List, Bool}
 use Rattle.std.specs.HashMap.{HashMap}
 use Rattle.std.specs.HashSet.{HashSet}
 use Rattle.std.specs.List.{list_any}
-use Rattle.model.specs.Content.{Problem}
-use Rattle.model.specs.Optional.{passes}
+use Rattle.model.specs.Content.{Problem, passes}
 use Rattle.model.specs.Summary.{asked_of_target, entries_at, same_text}
 use Rattle.model.specs.Vertices.{Owner}
 use Rattle.model.specs.Causes.{dependency_at, entries_or_none, same_entry, table_of_owner}

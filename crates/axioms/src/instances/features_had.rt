@@ -2,7 +2,7 @@
 
 ghost use Rattle.std.specs.Prelude.{◌≡◌, ◌||◌, IfOk, List, OnOk, map, ℕ};
 ghost use Rattle.std.specs.List.{list_any};
-ghost use Rattle.catalogue.specs.Views.{said_by};
+ghost use Rattle.catalogue.specs.Stores.{said_by};
 ghost use Rattle.features.specs.inner.Texts.{HasThose, has_text};
 ghost use Rattle.model.specs.Summary.{has_feature, same_text};
 

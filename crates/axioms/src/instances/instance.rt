@@ -8,9 +8,9 @@ ghost use Rattle.lookups.specs.inner.CauseViews.{cause_view};
 ghost use Rattle.lookups.specs.inner.TermViews.{term_views};
 
 use crate::instances::full_terms::without_full;
-use crate::instances::has_feature::feature_instance;
 use crate::instances::kept::Kept;
 use crate::instances::kinds::terms_of_cause;
+use crate::instances::lacking::on_alone;
 use lookups::{Cause, Term};
 use std::alloc::{AllocError, Global};
 
@@ -28,8 +28,8 @@ pub fn instance_terms<'a>(
     ensures same { problem_of kept.new ≡ problem_of kept.old }
 {
     match *cause {
-        Cause::Feature(name, class, feature) => {
-            feature_instance(alloc, kept, name, class, feature)
+        Cause::Feature(name, class, feature) if kept.lacks(name, class, feature) => {
+            on_alone(alloc, name, class, feature)
         }
         _ => {
             let terms = terms_of_cause(alloc, kept, cause)?;

@@ -1,23 +1,20 @@
-//! Terms that several kinds have.
+//! Terms of one state.
 
 ghost use Rattle.std.specs.Prelude.{◌≡◌, ◌∷◌, [], IfOk};
-ghost use Rattle.std.specs.List.Sorted.{IsStrictlySortedBy};
 ghost use Rattle.semver.specs.Identifiers.{parts_of};
-ghost use Rattle.classes.specs.Classes.{class_view};
-ghost use Rattle.features.specs.Views.{dependency_view};
-ghost use Rattle.model.specs.Axioms.{at, owner_holds};
+ghost use Rattle.model.specs.Axioms.{at};
 ghost use Rattle.model.specs.Selection.{class_of};
 ghost use Rattle.model.specs.Vertices as model;
-ghost use Rattle.vertices.specs.Orders.{state_cmp};
-ghost use Rattle.vertices.specs.inner.RefViews.{state_ref_view, state_ref_views, owner_ref_view, vertex_ref_view};
+ghost use Rattle.vertices.specs.inner.RefViews.{state_ref_view, vertex_ref_view};
+ghost use Rattle.lookups.specs.inner.Symbolic.{flag_state};
 ghost use Rattle.lookups.specs.inner.TermViews.{term_view};
 
 use classes::Class;
-use features::{DependencyParts, FeatureName, PackageName};
+use features::PackageName;
 use lookups::{StateSet, Term};
 use semver::Version;
 use std::alloc::{AllocError, Global};
-use vertices::{OwnerRef, StateRef, VertexRef};
+use vertices::{StateRef, VertexRef};
 
 /// A vertex with one state.
 pub(crate) fn term<'a>(
@@ -29,16 +26,6 @@ pub(crate) fn term<'a>(
 {
     let states = StateSet::one(alloc, state)?;
     Ok(Term { vertex, states })
-}
-
-/// The owner holds.
-pub(crate) fn holds<'a>(alloc: Global, owner: OwnerRef<'a>) -> Result<Term<'a>, AllocError>
-    ensures { IfOk result (λ t. term_view t ≡ owner_holds (owner_ref_view owner.entry)) }
-{
-    match owner {
-        OwnerRef::Root => term(alloc, VertexRef::Root, StateRef::Present),
-        OwnerRef::Version(name, version) => chosen(alloc, name, version),
-    }
 }
 
 /// The version is chosen.
@@ -57,68 +44,17 @@ pub(crate) fn chosen<'a>(
     )
 }
 
-/// The package has one of these states in the class.
-pub(crate) fn package_term<'a>(
-    name: &'a PackageName,
-    class: Class,
-    states: Vec<StateRef<'a>>,
-) -> Term<'a>
-    requires { IsStrictlySortedBy state_cmp (state_ref_views states.items) }
-    ensures { term_view result ≡ at (model.pkg name.entry.now (class_view class)) (state_ref_views states.entry.items) }
+/// A vertex that is absent or present.
+pub(crate) fn flag_term<'a>(
+    alloc: Global,
+    vertex: VertexRef<'a>,
+    present: bool,
+) -> Result<Term<'a>, AllocError>
+    ensures { IfOk result (λ t. term_view t ≡ at (vertex_ref_view vertex.entry) (flag_state present ∷ [])) }
 {
-    Term {
-        vertex: VertexRef::Package(name, class),
-        states: StateSet::rising(states),
+    if present {
+        term(alloc, vertex, StateRef::Present)
+    } else {
+        term(alloc, vertex, StateRef::Absent)
     }
-}
-
-/// The dependency leads to the class.
-pub(crate) fn led_term<'a>(
-    alloc: Global,
-    owner: OwnerRef<'a>,
-    number: usize,
-    class: Class,
-) -> Result<Term<'a>, AllocError>
-    ensures { IfOk result (λ t. term_view t
-        ≡ at (model.dep (owner_ref_view owner.entry) number) (model.in_class (class_view class) ∷ [])) }
-{
-    term(
-        alloc,
-        VertexRef::Dependency(owner, number),
-        StateRef::Class(class),
-    )
-}
-
-/// The feature of the version is on.
-pub(crate) fn on_term<'a>(
-    alloc: Global,
-    name: &'a PackageName,
-    version: &'a Version,
-    feature: &'a FeatureName,
-) -> Result<Term<'a>, AllocError>
-    ensures { IfOk result (λ t. term_view t ≡ at (model.feat name.entry.now
-        (class_of (parts_of version.entry.now)) feature.entry.now) (model.present ∷ [])) }
-{
-    term(
-        alloc,
-        VertexRef::Feature(name, Class::of(version), feature),
-        StateRef::Present,
-    )
-}
-
-/// The feature is off in the class.
-pub(crate) fn off_term<'a>(
-    alloc: Global,
-    dependency: &'a DependencyParts,
-    class: Class,
-    feature: &'a FeatureName,
-) -> Result<Term<'a>, AllocError>
-    ensures { IfOk result (λ t. term_view t ≡ at (model.feat (dependency_view dependency.entry.now).real_name
-        (class_view class) feature.entry.now) (model.absent ∷ [])) }
-{
-    term(
-        alloc,
-        VertexRef::Feature(&dependency.real_name, class, feature),
-        StateRef::Absent,
-    )
 }

@@ -5,8 +5,7 @@ use Rattle.std.specs.Prelude.{Some, cond, length, slice_get, slice_set}
 use Rattle.std.specs.List.{list_any}
 use Rattle.facts.specs.inner.Chains.{has}
 use Rattle.facts.specs.inner.Worklists.{unmarked}
-use Rattle.model.specs.Content.{Content, Package}
-use Rattle.model.specs.Optional.{passes}
+use Rattle.model.specs.Content.{Content, Package, passes}
 use Rattle.changes.specs.inner.Ways.{lists}
 use Rattle.changes.specs.declared.searching.Visit.{Visit}
 

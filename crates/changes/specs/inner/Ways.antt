@@ -5,8 +5,7 @@ use Rattle.std.specs.List.{list_any}
 use Rattle.semver.specs.Parse.{Parts}
 use Rattle.manifest.specs.Manifests.{ManifestView}
 use Rattle.std.specs.Ordering.{is_eq}
-use Rattle.model.specs.Content.{Content, Package, list_if}
-use Rattle.model.specs.Optional.{passes}
+use Rattle.model.specs.Content.{Content, Package, list_if, passes}
 use Rattle.model.specs.Order.{version_cmp}
 use Rattle.model.specs.Summary.{same_text}
 use Rattle.changes.specs.declared.ways.Why.{Why}

@@ -2,7 +2,7 @@
 use Rattle.std.specs.Prelude.{◌≡◌, ℕ, List, ⊤}
 use Rattle.model.specs.Content.{Problem}
 use Rattle.model.specs.Axioms.{Term}
-use Rattle.vertices.specs.Kinds.{kind_view}
+use Rattle.vertices.specs.Texts.{kind_view}
 use Rattle.model.specs.inner.Instances.{is_instance}
 use Rattle.derivations.specs.inner.Tables.{TablesView, terms_at}
 use Rattle.derivations.specs.declared.step.Origin.{Origin}

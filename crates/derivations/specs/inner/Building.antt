@@ -7,7 +7,7 @@ use Rattle.model.specs.Axioms.{Term, at}
 use Rattle.vertices.specs.Orders.{state_cmp}
 use Rattle.vertices.specs.Texts.{IsReadVertex, IsReadState}
 use Rattle.derivations.specs.inner.Derivations.{term_cmp}
-use Rattle.model.specs.Sorting.{in_order}
+use Rattle.model.specs.Order.{in_order}
 
 -- ---- which terms a step can be made of
 

@@ -3,7 +3,7 @@ use Rattle.std.specs.Prelude.{List}
 use Rattle.model.specs.Axioms.{Term}
 use Rattle.model.specs.Derivation.{Step, given, combine}
 use Rattle.model.specs.Vertices.{Vertex}
-use Rattle.vertices.specs.Kinds.{kind_view}
+use Rattle.vertices.specs.Texts.{kind_view}
 use Rattle.derivations.specs.declared.step.Origin.{Origin}
 use Rattle.derivations.specs.declared.step.Origin.TheVariants.{Axiom, Combination}
 

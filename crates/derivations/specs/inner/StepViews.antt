@@ -4,7 +4,7 @@ use Rattle.serde_json.specs.Data.{Data}
 use Rattle.trees.specs.Trees.{tree_view}
 use Rattle.trees.specs.declared.tree.Tree.{Tree}
 use Rattle.model.specs.Vertices.{Vertex}
-use Rattle.vertices.specs.Kinds.{kind_view}
+use Rattle.vertices.specs.Texts.{kind_view}
 use Rattle.derivations.specs.Steps.{Written, Origin, by_axiom, by_combination}
 use Rattle.derivations.specs.inner.Tables.{TablesView, term_at}
 use Rattle.derivations.specs.declared.line.WrittenTerm.{WrittenTerm}

@@ -3,7 +3,7 @@
 use Rattle.std.specs.Prelude.{◌≡◌, ◌≢◌, ◌↔◌, ℕ, List, Bool, true, Some, length, slice_get, Contains}
 use Rattle.std.specs.List.{AllPairs}
 use Rattle.model.specs.Content.{Package, Content, Problem}
-use Rattle.model.specs.WellFormed.{IsContent}
+use Rattle.model.specs.Order.{IsContent}
 use Rattle.model.specs.Vertices.{Owner}
 use Rattle.model.specs.inner.ContentOf.{Kept, package_of}
 use Rattle.facts.specs.inner.Graphs.{NodeView, flag_at, flag_in, target_at}

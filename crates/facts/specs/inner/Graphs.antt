@@ -5,7 +5,7 @@ use Rattle.std.specs.Prelude.{slice_index_or, option_and_then, unwrap_or, length
 use Rattle.std.specs.List.{All}
 use Rattle.features.specs.Views.{brings_view}
 use Rattle.model.specs.Summary.{Summary, nothing, has_feature}
-use Rattle.model.specs.Facts.{Fact, Holds, on}
+use Rattle.model.specs.Selection.{Fact, Holds, on}
 use Rattle.manifest.specs.Manifests.{root_asks}
 use Rattle.facts.specs.declared.node.Node.{Node}
 

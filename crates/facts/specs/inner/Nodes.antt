@@ -2,7 +2,7 @@
 use Rattle.std.specs.Prelude.{◌≡◌, ◌≢◌, ◌↔◌, ℕ, List, Bool, true, Option, Some, None, length, nat_eq, slice_get}
 use Rattle.std.specs.List.{AllPairs}
 use Rattle.model.specs.Summary.{Dependency}
-use Rattle.model.specs.Facts.{here, enabled}
+use Rattle.model.specs.Selection.{here, enabled}
 use Rattle.model.specs.Content.{Problem}
 use Rattle.model.specs.Vertices.{Owner, the_root, owner_brings}
 use Rattle.facts.specs.inner.Graphs.{NodeView, flag_at, flag_in, IsFactOf}

@@ -1,4 +1,5 @@
--- Which names, entries, tables and dependencies are of names that are names, and how many dependencies have numbers of 32
+-- Which names, entries, tables and dependencies are of names that are names, and how many dependencies have numbers of
+-- 32
 -- bits.
 use Rattle.std.specs.Prelude.{◌≡◌, ℕ, ◌≤◌, true, List, length}
 use Rattle.std.specs.List.{All}

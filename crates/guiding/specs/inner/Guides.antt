@@ -1,6 +1,7 @@
 -- What the guide of a search over a problem keeps: which vertices have numbers, and which pairs of a vertex and a state
 -- were asked for.
-use Rattle.std.specs.Prelude.{◌≡◌, ◌⊎◌, ◌+◌, ◌<◌, ◌≤◌, ◌==◌, ℕ, suc, List, [], ◌∷◌, ◌++◌, Bool, true, false, ◌||◌, length, map}
+use Rattle.std.specs.Prelude.{◌≡◌, ◌⊎◌, ◌+◌, ◌<◌, ◌≤◌, ◌==◌, ℕ, suc, List, [], ◌∷◌, ◌++◌, Bool, true, false, ◌||◌}
+use Rattle.std.specs.Prelude.{length, map}
 use Rattle.std.specs.Prelude.{take, Contains, Option, Some, None, IfSome, IsSome, slice_get, slice_set}
 use Rattle.version_sets.specs.Sets.{Members, has, join, none, only, size}
 use Rattle.incompatibilities.specs.Incompatibilities.{Assignment}
@@ -15,8 +16,8 @@ use Rattle.model.specs.Selection.{IsValidSelection}
 use Rattle.model.specs.Vertices.{Vertex, space}
 use Rattle.model.specs.inner.Assignment.{Assigns}
 use Rattle.model.specs.Axioms.{IsInstance, Kind, Term}
-use Rattle.vertices.specs.Kinds.{kind_number}
-use Rattle.model.specs.WellFormed.{IsCatalogue}
+use Rattle.vertices.specs.Texts.{kind_number}
+use Rattle.model.specs.Order.{IsCatalogue}
 use Rattle.model.specs.Causes.{Cause, is_cause, of_root, terms_of_cause}
 use Rattle.model.specs.inner.Search.{IsUnbroken}
 use Rattle.numbering.specs.inner.Assignments.{IsOf, state_at, state_of}

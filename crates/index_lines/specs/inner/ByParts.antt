@@ -13,11 +13,11 @@ use Rattle.model.specs.Tables.{DepName, table_of}
 use Rattle.features.specs.Names.{is_package_name}
 use Rattle.trees.specs.inner.Parts.{data_within, is_plain, line_of, member_text, part_depth}
 use Rattle.index_lines.specs.Records.{RecordView, dependencies_read, dependency_read, is_of_index, required}
-use Rattle.index_lines.specs.Records.{required_part, semver_or, unless}
+use Rattle.index_lines.specs.Records.{required_part, semver_or, unless, dep_name_of, dep_names_of, feature_read}
+use Rattle.index_lines.specs.Records.{unless_faulty, with_features}
 use Rattle.index_lines.specs.Shapes.{Line, DependencyView, dev, part, FeatureView, data_of_bytes, dependency_of}
 use Rattle.index_lines.specs.Shapes.{features_or_none, flag_at, needed_dependencies, rust_version_at, unless_null}
 use Rattle.index_lines.specs.Shapes.{texts_of, whole_at}
-use Rattle.index_lines.specs.Written.{dep_name_of, dep_names_of, feature_read, unless_faulty, with_features}
 use Rattle.index_lines.specs.declared.fault.LineFault.TheVariants.{Skipped}
 use Rattle.index_lines.specs.declared.fault.SkipReason.TheVariants as reason
 use Rattle.index_lines.specs.declared.shortcuts.split.LineParts.{LineParts}

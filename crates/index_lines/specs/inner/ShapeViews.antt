@@ -1,6 +1,6 @@
 -- What the borrowed structs of a line stand for (Cargo book, "Registry Index").
 use Rattle.std.specs.Prelude.{List, option_map, map}
-use Rattle.classes.specs.RustVersions.{rust_version_view}
+use Rattle.classes.specs.Classes.{rust_version_view}
 use Rattle.features.specs.Views.{text_views}
 use Rattle.index_lines.specs.Shapes.{FeatureView, ValuesView, PartView, DependencyView, dev, part, ShapeView}
 use Rattle.trees.specs.Trees.{tree_view}

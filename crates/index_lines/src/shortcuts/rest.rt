@@ -2,7 +2,7 @@
 
 ghost use Rattle.std.specs.Prelude.{◌≡◌, ◌∷◌, IfOk, Ok, not, option_map};
 ghost use Rattle.model.specs.Outcome.{Gives};
-ghost use Rattle.classes.specs.RustVersions.{rust_version_view};
+ghost use Rattle.classes.specs.Classes.{rust_version_view};
 ghost use Rattle.trees.specs.Trees.{tree_view};
 ghost use Rattle.index_lines.specs.inner.ByParts.{lacks, lacks_parts, rest_of, rest_of_bytes};
 ghost use Rattle.index_lines.specs.Shapes.{data_of_bytes, value_at};

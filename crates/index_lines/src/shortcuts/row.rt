@@ -59,7 +59,7 @@ fn key_and_value<'a>(bytes: &'a [u8]) -> Option<(&'a str, &'a [u8])>
 }
 
 /// The feature that these are as a name and a list.
-#[tactic(auto, unfolding(crate::specs::inner::ByParts::row_of_member, crate::specs::Written::feature_read))]
+#[tactic(auto, unfolding(crate::specs::inner::ByParts::row_of_member, crate::specs::Records::feature_read))]
 fn row_of_member(
     alloc: Global,
     key: &str,

@@ -5,8 +5,7 @@ use Rattle.std.specs.Ordering.{ordering_then}
 use Rattle.std.specs.declared.cmp.Ordering.{Ordering}
 use Rattle.semver.specs.Identifiers.{parts_text}
 use Rattle.model.specs.Content.{Package, Content}
-use Rattle.model.specs.Order.{text_cmp}
-use Rattle.model.specs.Sorting.{in_order}
+use Rattle.model.specs.Order.{text_cmp, in_order}
 use Rattle.lockfile.specs.inner.Search.{IsRead}
 use Rattle.lockfile.specs.Spelling.{block, dependency_text, listed_source_cmp, at_places}
 use Rattle.lockfile.specs.inner.Views.{package_view}

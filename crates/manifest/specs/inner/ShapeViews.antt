@@ -1,7 +1,7 @@
 -- What the borrowed structs of a manifest's shape stand for, without where they lie in memory.
 use Rattle.std.specs.Prelude.{List, map, option_map}
 use Rattle.semver.specs.Identifiers.{parts_of}
-use Rattle.classes.specs.RustVersions.{rust_version_view}
+use Rattle.classes.specs.Classes.{rust_version_view}
 use Rattle.features.specs.inner.Tables.{rows_of}
 use Rattle.manifest.specs.Packages.{PackageView}
 use Rattle.manifest.specs.Dependencies.{SourceView, registry, unsupported, DependencyShapeView}

@@ -2,7 +2,7 @@
 use Rattle.std.specs.Prelude.{ℕ, Bool, true, false, ◌==◌, if◌then◌else◌, List, ◌++◌, take, drop}
 use Rattle.std.specs.Prelude.{◌≡◌, Some, codes, is_some, nat_eq}
 use Rattle.std.specs.List.{before_first, list_any, starts_with}
-use Rattle.model.specs.Optional.{of_utf8}
+use Rattle.model.specs.Content.{of_utf8}
 use Rattle.tables.specs.inner.Lines.{line_after}
 use Rattle.toml.specs.Parse.{parse_document}
 use Rattle.toml.specs.Data.{Members}

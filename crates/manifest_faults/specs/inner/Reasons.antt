@@ -2,13 +2,12 @@
 -- Dependencies" and "Features").
 use Rattle.std.specs.Prelude.{ℕ, Bool, true, false, not, if◌then◌else◌, List, [], ◌∷◌, Option, Some, None}
 use Rattle.std.specs.Prelude.{codes, is_err, is_some, is_none, option_copied, option_and_then}
-use Rattle.toml.specs.Data.{Data, string, integer, float, boolean, datetime, array, table, as_str, as_bool, as_array}
+use Rattle.toml.specs.Data.{Data, as_str, as_bool, as_array}
 use Rattle.toml.specs.Data.{as_table, get, at, get_member, Members, no_members, member}
 use Rattle.toml.specs.Text.{has_items}
 use Rattle.semver.specs.Parse.{version_parts, req_of}
 use Rattle.model.specs.Summary.{same_text, Entry, feature, dependency, dependency_feature, weak_feature}
-use Rattle.features.specs.Entries.{entry_of}
-use Rattle.features.specs.Names.{is_package_name, is_feature_name}
+use Rattle.features.specs.Names.{entry_of, is_package_name, is_feature_name}
 use Rattle.tables.specs.Rows.{has_rows}
 use Rattle.manifest.specs.Values.{has_key}
 use Rattle.manifest.specs.Packages.{is_inherited}
@@ -22,7 +21,7 @@ use Rattle.manifest.specs.declared.fault.TableFault.{TableFault}
 use Rattle.manifest.specs.declared.fault.TableFault.TheVariants as table_fault
 use Rattle.manifest.specs.declared.fault.Unsupported.{Unsupported}
 use Rattle.manifest.specs.declared.fault.Unsupported.TheVariants as source
-use Rattle.manifest_faults.specs.inner.Places.{named_value, value_at, twin_at}
+use Rattle.manifest_faults.specs.inner.Places.{twin_at}
 use Rattle.manifest_faults.specs.declared.place.Place.{Place}
 use Rattle.manifest_faults.specs.declared.why.Kind.{Kind}
 use Rattle.manifest_faults.specs.declared.why.Kind.TheVariants as kind

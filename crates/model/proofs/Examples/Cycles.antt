@@ -3,11 +3,10 @@ use Rattle.std.proofs.Common.{◌≡◌, ◌⊎◌, ℕ, zero, suc, List, [], �
 use Rattle.std.proofs.Common.{true≢false, arith}
 use Rattle.std.proofs.lemmas.Option.{none-some, same_Some}
 use Rattle.model.specs.Summary.{Dependency, Table, feature, dependency, asked_of_target}
-use Rattle.model.specs.Facts.{Fact, here, on, enabled, Brings}
-use Rattle.model.specs.Facts.Holds.{starts, arrives, root_needs, needs, asks, root_wants, turns_on, enables}
-use Rattle.model.specs.Facts.Holds.{enables_for, wants, wants_weakly}
+use Rattle.model.specs.Selection.{Fact, here, on, enabled, Brings, IsFact, IsRootAt}
+use Rattle.model.specs.Selection.Holds.{starts, arrives, root_needs, needs, asks, root_wants, turns_on, enables}
+use Rattle.model.specs.Selection.Holds.{enables_for, wants, wants_weakly}
 use Rattle.model.specs.Content.{Problem, Content, is_root, summary_at}
-use Rattle.model.specs.Selection.{IsFact, IsRootAt}
 use Rattle.model.proofs.Lists.{in_none}
 use Rattle.model.proofs.Examples.Small.{text_a, text_b, text_f, text_g, version_1_0, on_any, optional_on, candidate}
 use Rattle.model.proofs.Examples.Small.{asked_by_demo, locked, demo, no_feature_on}

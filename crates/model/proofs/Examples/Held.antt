@@ -4,11 +4,11 @@ use Rattle.std.proofs.Common.{ap, ◌∙◌, subst, subst₂, inl, inr, true, tr
 use Rattle.std.proofs.lemmas.Option.{none-some, same_Some}
 use Rattle.model.specs.Summary.{Dependency, Entry, Table, feature, dependency, dependency_feature, weak_feature}
 use Rattle.model.specs.Summary.{entries_at, asked_of_target, has_feature, same_text}
-use Rattle.model.specs.Facts.{Fact, here, on, enabled, Brings, Lists}
-use Rattle.model.specs.Facts.Holds.{starts, arrives, root_needs, needs, asks, root_wants, turns_on, enables}
-use Rattle.model.specs.Facts.Holds.{enables_for, wants, wants_weakly}
+use Rattle.model.specs.Selection.{Fact, here, on, enabled, Brings, Lists, IsValidSelection, IsFact, IsTarget, HasTarget}
+use Rattle.model.specs.Selection.{IsRootAt, IsOther, IsReached}
+use Rattle.model.specs.Selection.Holds.{starts, arrives, root_needs, needs, asks, root_wants, turns_on, enables}
+use Rattle.model.specs.Selection.Holds.{enables_for, wants, wants_weakly}
 use Rattle.model.specs.Content.{Problem, Content, Package, candidate_of, is_root, summary_at, target_of}
-use Rattle.model.specs.Selection.{IsValidSelection, IsFact, IsTarget, HasTarget, IsRootAt, IsOther, IsReached}
 use Rattle.model.specs.Selection.IsReached.{root as at_root, listed}
 use Rattle.model.proofs.Lists.{in_none, in_first}
 use Rattle.model.proofs.Examples.Small.{text_a, text_b, text_f, version_1_0, on_any, asking, optional_on, candidate}

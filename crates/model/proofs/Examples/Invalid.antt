@@ -8,7 +8,7 @@ use Rattle.model.specs.Content.{Problem, Content, Package, is_root, target_of}
 use Rattle.model.specs.Selection.{IsValidSelection, IsRootAt, IsReached}
 use Rattle.model.specs.Selection.IsReached.{root, listed}
 use Rattle.model.specs.Verdict.{IsVerdict, no_root}
-use Rattle.model.specs.WellFormed.{IsContent}
+use Rattle.model.specs.Order.{IsContent}
 use Rattle.model.proofs.Lists.{in_none, in_first, in_rest}
 use Rattle.model.proofs.Examples.Small.{text_a, text_b, version_1_0, version_1_1, version_2_0, on_any, candidate}
 use Rattle.model.proofs.Examples.Small.{asked_by_demo, locked, demo, in_one, formed}

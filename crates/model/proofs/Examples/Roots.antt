@@ -3,7 +3,7 @@ use Rattle.std.proofs.Common.{◌≡◌, [], ◌∷◌, true, false, None, Some,
 use Rattle.std.specs.Prelude.{codes}
 use Rattle.model.specs.Content.{Package, Content, Problem, is_root, target_of}
 use Rattle.std.specs.Fmt.{digits as decimal}
-use Rattle.model.specs.WellFormed.{IsContent}
+use Rattle.model.specs.Order.{IsContent}
 use Rattle.model.proofs.Examples.Small.{text_a, version_1_0, on_any, registry, locked, formed}
 
 -- the root `demo 1.0.0` needs a, which needs a `demo` of the registry

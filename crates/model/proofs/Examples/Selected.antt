@@ -4,13 +4,11 @@ use Rattle.std.proofs.Common.{refl, sym, ap, ◌∙◌, subst, inl, inr, true, t
 use Rattle.std.specs.List.{All, AllPairs}
 use Rattle.std.proofs.lemmas.Option.{none-some, same_Some}
 use Rattle.model.specs.Summary.{Dependency, KnowsFeatures, asked_of_target}
-use Rattle.model.specs.Order.{precedence}
-use Rattle.model.specs.Facts.{enabled}
-use Rattle.model.specs.Facts.Holds.{starts, root_needs}
+use Rattle.model.specs.Order.{precedence, IsCatalogue}
+use Rattle.model.specs.Selection.{enabled, IsValidSelection, IsFact, IsTarget, IsRootAt, IsOther, IsReached}
+use Rattle.model.specs.Selection.Holds.{starts, root_needs}
 use Rattle.model.specs.Content.{Problem, Content, Package, Candidate, candidate_of, is_root, summary_at, target_of}
-use Rattle.model.specs.Selection.{IsValidSelection, IsFact, IsTarget, IsRootAt, IsOther, IsReached}
 use Rattle.model.specs.Selection.IsReached.{root as at_root, listed}
-use Rattle.model.specs.WellFormed.{IsCatalogue}
 use Rattle.model.proofs.Lists.{in_none, in_first, all_none, all_cons, pairs_one}
 use Rattle.model.proofs.Examples.Small.{text_a, version_1_0, on_any, candidate, asked_by_demo, locked, demo, in_one}
 use Rattle.model.proofs.Examples.Small.{formed, no_feature_on}

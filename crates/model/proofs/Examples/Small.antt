@@ -7,13 +7,11 @@ use Rattle.std.proofs.lemmas.Bool.{ltb-true}
 use Rattle.std.proofs.lemmas.List.Kept.{AllPairs-cons}
 use Rattle.semver.specs.Parse.{Parts}
 use Rattle.model.specs.Summary.{Dependency, Table, asked_of_target}
-use Rattle.model.specs.Facts.{Brings, Fact, here, on, enabled}
-use Rattle.model.specs.Facts.Holds.{starts, arrives, root_needs, needs, asks, root_wants, turns_on, enables}
-use Rattle.model.specs.Facts.Holds.{enables_for, wants, wants_weakly}
+use Rattle.model.specs.Selection.{Brings, Fact, here, on, enabled, IsFact}
+use Rattle.model.specs.Selection.Holds.{starts, arrives, root_needs, needs, asks, root_wants, turns_on, enables}
+use Rattle.model.specs.Selection.Holds.{enables_for, wants, wants_weakly}
 use Rattle.model.specs.Content.{Package, Content, Candidate, Problem, summary_at}
-use Rattle.model.specs.Selection.{IsFact}
-use Rattle.model.specs.Order.{package_cmp}
-use Rattle.model.specs.WellFormed.{IsContent}
+use Rattle.model.specs.Order.{package_cmp, IsContent}
 use Rattle.model.proofs.Same.{both}
 use Rattle.model.proofs.Lists.{in_none, in_cons, all_none, all_cons, pairs_none}
 

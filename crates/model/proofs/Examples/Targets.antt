@@ -1,7 +1,7 @@
 -- Of two listed packages that serve a dependency the later one is its target.
 use Rattle.std.proofs.Common.{◌≡◌, [], ◌∷◌, Some, refl}
 use Rattle.model.specs.Content.{Content, target_of}
-use Rattle.model.specs.WellFormed.{IsContent}
+use Rattle.model.specs.Order.{IsContent}
 use Rattle.model.proofs.Examples.Small.{text_a, version_1_0, version_2_0, on_any, locked, demo, formed}
 
 -- two versions of one name, in two classes

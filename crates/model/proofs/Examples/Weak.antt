@@ -5,11 +5,10 @@ use Rattle.std.proofs.Common.{inl, inr, true≢false, arith}
 use Rattle.std.proofs.lemmas.Option.{none-some, same_Some}
 use Rattle.model.specs.Summary.{Dependency, Entry, Table, feature, dependency, dependency_feature, weak_feature}
 use Rattle.model.specs.Summary.{entries_at, asked_of_target}
-use Rattle.model.specs.Facts.{Fact, here, on, enabled, Brings, Lists}
-use Rattle.model.specs.Facts.Holds.{starts, arrives, root_needs, needs, asks, root_wants, turns_on, enables}
-use Rattle.model.specs.Facts.Holds.{enables_for, wants, wants_weakly}
+use Rattle.model.specs.Selection.{Fact, here, on, enabled, Brings, Lists, IsFact, IsRootAt, HasTarget}
+use Rattle.model.specs.Selection.Holds.{starts, arrives, root_needs, needs, asks, root_wants, turns_on, enables}
+use Rattle.model.specs.Selection.Holds.{enables_for, wants, wants_weakly}
 use Rattle.model.specs.Content.{Problem, Content, is_root, summary_at, target_of}
-use Rattle.model.specs.Selection.{IsFact, IsRootAt, HasTarget}
 use Rattle.model.proofs.Lists.{in_none, in_first, in_rest}
 use Rattle.model.proofs.Examples.Small.{text_a, text_b, text_f, text_g, text_h, version_1_0, asking, optional_on}
 use Rattle.model.proofs.Examples.Small.{candidate, asked_by_demo, locked, demo, in_one}

@@ -3,9 +3,8 @@
 use Rattle.std.specs.Prelude.{◌≡◌, ◌⊎◌, ℕ, List, Some, slice_get}
 use Rattle.semver.specs.Parse.{Parts}
 use Rattle.model.specs.Summary.{Dependency, dependency_feature}
-use Rattle.model.specs.Facts.{on}
+use Rattle.model.specs.Selection.{on, Class, class_of, IsFact, IsEnabled, HasTarget, IsRootAt, IsOther}
 use Rattle.model.specs.Content.{Package, Content, Problem, summary_at}
-use Rattle.model.specs.Selection.{Class, class_of, IsFact, IsEnabled, HasTarget, IsRootAt, IsOther}
 use Rattle.model.specs.Vertices.{Owner, the_root, version_of, Vertex, root, pkg, dep, feat, ask, State, absent, present}
 use Rattle.model.specs.Vertices.{version, in_class}
 use Rattle.model.specs.Axioms.{Term, HasOneOf, IsBroken, HasEntry}

@@ -5,13 +5,12 @@ use Rattle.std.specs.Prelude.{Contains}
 use Rattle.std.specs.List.{list_any, All, AllPairs}
 use Rattle.std.specs.declared.cmp.Ordering.{Ordering}
 use Rattle.model.specs.Summary.{Dependency}
-use Rattle.model.specs.Facts.{here, enabled, Brings}
+use Rattle.model.specs.Selection.{here, enabled, Brings}
 use Rattle.model.specs.Content.{Package, Content, Problem, candidates_of, candidate_at}
-use Rattle.model.specs.Order.{package_cmp}
+use Rattle.model.specs.Order.{package_cmp, in_order}
 use Rattle.model.specs.Vertices.{Owner, the_root, version_of, same_owner, owner_brings}
 use Rattle.model.specs.Axioms.{IsOwner}
-use Rattle.model.specs.Sorting.{in_order}
-use Rattle.model.specs.Stands.{IsReachedFact}
+use Rattle.model.specs.Walk.{IsReachedFact}
 
 -- an owner that is kept, and the owners that its enabled dependencies lead to
 pub record Kept : Type 0 where

@@ -3,12 +3,11 @@
 use Rattle.std.specs.Prelude.{◌≡◌, ◌≢◌, ◌⊎◌, ℕ, List, true, ⊤}
 use Rattle.semver.specs.Parse.{Parts}
 use Rattle.model.specs.Summary.{Dependency, dependency_feature}
-use Rattle.model.specs.Facts.{Fact, here, on, enabled, Brings, Lists}
+use Rattle.model.specs.Selection.{Fact, here, on, enabled, Brings, Lists, Class, class_of}
 use Rattle.model.specs.Content.{Problem}
-use Rattle.model.specs.Selection.{Class, class_of}
 use Rattle.model.specs.Vertices.{Owner, the_root, version_of, Vertex, root, pkg, dep, feat, ask, State, absent, present}
 use Rattle.model.specs.Vertices.{version, in_class, has_state, owner_brings, space}
-use Rattle.model.specs.Stands as reached
+use Rattle.model.specs.Walk as reached
 use Rattle.model.specs.Axioms.{Kind, Term, IsBroken, IsInstance}
 
 module _ (q : Problem) (state : Vertex → State) where

@@ -3,8 +3,7 @@ use Rattle.std.specs.Prelude.{ℕ, List, if◌then◌else◌, Option, Some, None
 use Rattle.semver.specs.Identifiers.{parts_of}
 use Rattle.semver.specs.Parse.{Parts, version_parts}
 use Rattle.semver.specs.declared.error.Error.{Error}
-use Rattle.features.specs.Entries.{around}
-use Rattle.features.specs.Names.{is_package_name}
+use Rattle.features.specs.Names.{around, is_package_name}
 use Rattle.reports.specs.declared.wanted.Wanted.{Wanted}
 
 -- a name, and a version if one is asked for

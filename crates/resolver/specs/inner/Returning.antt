@@ -1,14 +1,12 @@
 -- What it is for an answer that was given to hold in a later call over the same folder.
 use Rattle.std.specs.Prelude.{◌≡◌, ℕ, true, List, Contains, Option, Some, Result, Ok, Err}
-use Rattle.index_reader.specs.Folders.{Files, file_at}
-use Rattle.index_reader.specs.Paths.{path_of}
+use Rattle.index_reader.specs.Folders.{Files, file_at, path_of}
 use Rattle.catalogue.specs.declared.store.Prefer.TheVariants.{Newest}
 use Rattle.selection.specs.declared.verdict.Verdict.{Verdict}
 use Rattle.selection.specs.declared.verdict.Verdict.TheVariants.{Valid}
 use Rattle.checker.specs.declared.outcome.Check.{Check}
 use Rattle.checker.specs.declared.outcome.Check.TheVariants.{Proves}
-use Rattle.resolver.specs.Faults.{input_wants_memory}
-use Rattle.resolver.specs.Inputs.{RequestView}
+use Rattle.resolver.specs.Inputs.{input_wants_memory, RequestView}
 use Rattle.resolver.specs.declared.fault.Fault.{Fault}
 use Rattle.resolver.specs.declared.fault.CheckFault.{CheckFault}
 use Rattle.resolver.specs.declared.fault.CheckFault.TheVariants.{Input, Proof}

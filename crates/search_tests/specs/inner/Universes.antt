@@ -1,8 +1,8 @@
 -- Stores and trails of given universes (this repository's tests).
-use Rattle.std.specs.Prelude.{◌≡◌, ℕ, ◌<◌, ◌≤◌, true, List, length, slice_index_or}
+use Rattle.std.specs.Prelude.{◌≡◌, ℕ, ◌<◌, ◌≤◌, List, length, slice_index_or}
 use Rattle.version_sets.specs.Sets.{size}
 use Rattle.incompatibilities.specs.Incompatibilities.{Assignment, Breaks, LiesIn}
-use Rattle.incompatibilities.specs.Stores.{EntryView, entry, terms_of}
+use Rattle.incompatibilities.specs.Stores.{EntryView, terms_of}
 use Rattle.propagation.specs.Satisfaction.{Agrees}
 use Rattle.propagation.specs.Trails.{TrailView, set_of}
 use Rattle.search_tests.specs.inner.Meeting.{universe_at}

@@ -2,11 +2,10 @@
 -- one is followed that is enabled, the others make no difference: a law in `src/laws.rt`.
 use Rattle.std.specs.Prelude.{◌≡◌, ℕ, List, Bool, true, not, ◌||◌, Some, nat_eq, slice_get}
 use Rattle.model.specs.Summary.{Dependency}
-use Rattle.model.specs.Facts.{enabled, Brings}
+use Rattle.model.specs.Selection.{enabled, Brings}
 use Rattle.model.specs.Content.{Candidate, Problem}
 use Rattle.model.specs.Vertices.{Owner, owner_brings}
-use Rattle.model.specs.Stands.{IsReachedFact}
-use Rattle.model.specs.Walk.{Picks}
+use Rattle.model.specs.Walk.{IsReachedFact, Picks}
 use Rattle.facts.specs.inner.Graphs.{flag_in}
 
 -- whether a dependency is followed: all of its package are, the package needs it, or it was asked for

@@ -13,9 +13,8 @@ use Rattle.model.specs.Summary.{Dependency, same_text}
 use Rattle.model.specs.Content.{Candidate, candidates_of}
 use Rattle.model.specs.Vertices.{Owner, version_of}
 use Rattle.model.specs.Walk.{first_match}
-use Rattle.catalogue.specs.Ranks.{places_by_rank}
+use Rattle.catalogue.specs.Stores.{places_by_rank, CatalogueView, candidates_at, ranked_at}
 use Rattle.catalogue.specs.inner.Bounds.{is_beyond, is_short}
-use Rattle.catalogue.specs.Stores.{CatalogueView, candidates_at, ranked_at}
 use Rattle.facts.specs.inner.Graphs.{flag_at}
 use Rattle.facts.specs.declared.node.Node.{Node}
 use Rattle.selection.specs.inner.Followed.{is_followed}

@@ -5,13 +5,12 @@ use Rattle.std.specs.Ordering.{is_eq, nat_cmp}
 use Rattle.facts.specs.declared.rule.Rule.{Rule}
 use Rattle.facts.specs.inner.Graphs.{node_views, flag_at, flag_in}
 use Rattle.lockfile.specs.inner.Views.{package_views}
-use Rattle.model.specs.Facts.{enabled, on}
+use Rattle.model.specs.Selection.{enabled, on, IsFact, IsReached}
 use Rattle.model.specs.Content.{Content, Problem, summary_at}
 use Rattle.model.specs.Summary.{has_feature}
-use Rattle.model.specs.Selection.{IsFact, IsReached}
 use Rattle.model.specs.Verdict.{VerdictFault, not_candidate, two_in_class, unmet, no_feature, wrong_list, unreached}
 use Rattle.model.specs.Verdict.{IsFreeOf}
-use Rattle.model.specs.WellFormed.{IsContent}
+use Rattle.model.specs.Order.{IsContent}
 use Rattle.selection.specs.inner.Graphs.{graph_of, is_known, are_known, IsOnlyRoot, HasNoRoot}
 use Rattle.selection.specs.declared.checked.Checked.{Checked}
 use Rattle.selection.specs.declared.findings.Findings.{Findings}

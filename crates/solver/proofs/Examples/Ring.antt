@@ -4,11 +4,10 @@ use Rattle.std.proofs.Common.{◌≡◌, ℕ, zero, suc, [], ◌∷◌, Contains
 use Rattle.std.proofs.Common.{false, true≢false, arith}
 use Rattle.std.proofs.lemmas.Option.{none-some, same_Some}
 use Rattle.model.specs.Summary.{Dependency, Table, dependency, asked_of_target}
-use Rattle.model.specs.Facts.{Fact, Holds, here, on, enabled, Brings}
-use Rattle.model.specs.Facts.Holds.{starts, arrives, root_needs, needs, asks, root_wants, turns_on, enables}
-use Rattle.model.specs.Facts.Holds.{enables_for, wants, wants_weakly}
+use Rattle.model.specs.Selection.{Fact, Holds, here, on, enabled, Brings, IsValidSelection, HasTarget, IsRootAt}
+use Rattle.model.specs.Selection.Holds.{starts, arrives, root_needs, needs, asks, root_wants, turns_on, enables}
+use Rattle.model.specs.Selection.Holds.{enables_for, wants, wants_weakly}
 use Rattle.model.specs.Content.{Problem, Content, Package, is_root, summary_at, target_of}
-use Rattle.model.specs.Selection.{IsValidSelection, HasTarget, IsRootAt}
 use Rattle.model.proofs.Lists.{in_none}
 use Rattle.model.proofs.Examples.Small.{text_a, text_b, text_f, version_1_0, on_any, asking, optional_on, candidate}
 use Rattle.model.proofs.Examples.Small.{asked_by_demo, locked, demo}

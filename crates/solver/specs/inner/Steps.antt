@@ -8,7 +8,7 @@ use Rattle.solver.specs.declared.flat.Source.{Source}
 use Rattle.solver.specs.declared.flat.Source.TheVariants.{Axiom, Combined}
 use Rattle.model.specs.Content.{Problem}
 use Rattle.model.specs.Axioms.{Term, IsInstance}
-use Rattle.vertices.specs.Kinds.{kind_at}
+use Rattle.vertices.specs.Texts.{kind_at}
 use Rattle.model.specs.Derivation.{SameTerms, Step, given, combine}
 use Rattle.model.specs.Derivation as model
 use Rattle.numbering.specs.Numberings.{Numbering, Says}

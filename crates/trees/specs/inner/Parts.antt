@@ -9,7 +9,7 @@ use Rattle.json.specs.Json as json
 use Rattle.json.specs.Lex.{tokens}
 use Rattle.serde_json.specs.Data.{Data, string, Items, no_items, item, Members, no_members, member, put}
 use Rattle.serde_json.specs.Read.{of_json}
-use Rattle.model.specs.Optional.{of_utf8}
+use Rattle.model.specs.Content.{of_utf8}
 
 -- a byte of ASCII that stands for itself in a string of JSON
 abbrev pub is_plain_byte : ℕ → Bool

@@ -1,4 +1,3 @@
-use Rattle.std.proofs.lemmas.Result.{on_ok_weaker}
 use Rattle.features.specs.EntryViews.{entry_view}
 use Rattle.axioms.proofs.EntryLemmas.{entry_put}
 use Rattle.axioms.proofs.entries.put_entry.Goals as goal

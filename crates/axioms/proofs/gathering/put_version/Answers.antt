@@ -1,7 +1,7 @@
 use Rattle.std.proofs.Common.{◌∙◌, ap, sym, option_map}
 use Rattle.std.specs.Borrow.{Bor}
 use Rattle.semver.specs.Identifiers.{parts_of}
-use Rattle.catalogue.specs.Views.{said_by}
+use Rattle.catalogue.specs.Stores.{said_by}
 use Rattle.catalogue.specs.declared.candidate.Candidate.{Candidate}
 use Rattle.axioms.specs.inner.Gathered.{is_asked_by_version}
 use Rattle.lookups.proofs.Brought.{is_brought, none_brought}

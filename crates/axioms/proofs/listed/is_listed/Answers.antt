@@ -2,7 +2,7 @@ use Rattle.std.proofs.Common.{option_map, sym, ap, ap₂, ◌∙◌}
 use Rattle.std.specs.Borrow.{Bor}
 use Rattle.features.specs.Views.{dependency_view}
 use Rattle.features.specs.declared.dependency.DependencyParts.{DependencyParts}
-use Rattle.model.specs.Optional.{passes}
+use Rattle.model.specs.Content.{passes}
 use Rattle.model.specs.Summary.{Dependency}
 use Rattle.axioms.specs.inner.Listed.{Numbered}
 use Rattle.axioms.specs.inner.Pairs.{has_pair}

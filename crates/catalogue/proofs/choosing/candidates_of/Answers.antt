@@ -3,7 +3,7 @@ use Rattle.std.specs.Ordering.{is_lt}
 use Rattle.std.proofs.lemmas.List.Sorted.{answers_always, ranks_by, IsPermutation-map}
 use Rattle.semver.specs.Eval.{precedence_cmp}
 use Rattle.semver.specs.OrderLaws.{precedence_total}
-use Rattle.classes.specs.RustVersions.{rust_version_view}
+use Rattle.classes.specs.Classes.{rust_version_view}
 use Rattle.model.specs.Candidates.{is_locked, may_be_locked}
 use Rattle.index_lines.specs.Views.{record_view}
 use Rattle.catalogue.specs.Loads.{packages_of_old, with_ranks}

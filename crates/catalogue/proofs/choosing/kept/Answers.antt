@@ -1,14 +1,12 @@
 use Rattle.std.proofs.Common.{◌≡◌, ◌+◌, ◌||◌, not, [], ◌∷◌, length, option_map, arith, sym, ap, ap₂, ◌∙◌, subst}
 use Rattle.std.proofs.lemmas.List.{length-append}
 use Rattle.std.specs.Vec.Iter.{into_iter_items, into_iter_len}
-use Rattle.classes.specs.RustVersions.{rust_version_view}
+use Rattle.classes.specs.Classes.{rust_version_view}
 use Rattle.model.specs.Candidates.{is_locked}
 use Rattle.index_lines.specs.Views.{record_view}
 use Rattle.catalogue.specs.Loads.{packages_of_old}
 use Rattle.catalogue.specs.Runs.{as_record}
-use Rattle.catalogue.specs.Ranks.{rank_of}
-use Rattle.catalogue.specs.Ranks.{records}
-use Rattle.catalogue.specs.Views.{AreRising, AreKnown, BringValid}
+use Rattle.catalogue.specs.Stores.{rank_of, records, AreRising, AreKnown, BringValid}
 use Rattle.catalogue.proofs.Chosen.{Brings, Knows, chosen-yes, chosen-no, chosen-done, chosen-all, chosen-rise}
 use Rattle.catalogue.proofs.Chosen.{read-snoc, rank-is}
 use Rattle.catalogue.proofs.Chosen.{none-left}

@@ -1,9 +1,9 @@
 use Rattle.std.proofs.Common.{◌≡◌, ◌+◌, ◌≤◌, ◌++◌, length, option_map}
 use Rattle.std.specs.Vec.Iter.{into_iter_items, into_iter_len}
-use Rattle.classes.specs.RustVersions.{rust_version_view}
+use Rattle.classes.specs.Classes.{rust_version_view}
 use Rattle.model.specs.Candidates.{is_locked}
 use Rattle.catalogue.specs.Loads.{packages_of_old}
-use Rattle.catalogue.specs.Views.{ranked_view, AreRead}
+use Rattle.catalogue.specs.Stores.{ranked_view, AreRead}
 use Rattle.catalogue.proofs.Chosen.{chosen}
 use Rattle.catalogue.proofs.choosing.kept.Given as goal
 

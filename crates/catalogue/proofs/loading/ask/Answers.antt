@@ -1,11 +1,11 @@
 use Rattle.std.proofs.Common.{◌++◌, map, option_map, sym, ap, ◌∙◌, subst}
 use Rattle.std.specs.List.{AllPairs}
 use Rattle.std.proofs.lemmas.List.{length-map, map-append}
-use Rattle.classes.specs.RustVersions.{rust_version_view}
+use Rattle.classes.specs.Classes.{rust_version_view}
 use Rattle.model.specs.Candidates.{IsApart, is_locked}
-use Rattle.index_reader.specs.Views.{skip_view, contents_view}
+use Rattle.index_reader.specs.Files.{skip_view, contents_view}
 use Rattle.catalogue.specs.Loads.{packages_of_old, ranked_among}
-use Rattle.catalogue.specs.Views.{BringValid, KnowFeatures}
+use Rattle.catalogue.specs.Stores.{BringValid, KnowFeatures}
 use Rattle.catalogue.proofs.FileFacts.{file_few, views-same, records-are, skips-are}
 use Rattle.catalogue.proofs.LawsRecords.{records-sound, records-valid}
 use Rattle.catalogue.proofs.loading.ask.Goals as goal

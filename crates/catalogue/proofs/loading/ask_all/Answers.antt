@@ -3,9 +3,9 @@ use Rattle.std.proofs.Common.{ap₂, ◌∙◌, subst}
 use Rattle.std.proofs.lemmas.Option.{slice_get-get_or}
 use Rattle.std.proofs.lemmas.Result.{err_from_is_err_and}
 use Rattle.catalogue.specs.inner.Names.{insert_all}
-use Rattle.classes.specs.RustVersions.{rust_version_view}
+use Rattle.classes.specs.Classes.{rust_version_view}
 use Rattle.features.specs.Views.{dependency_views}
-use Rattle.index_reader.specs.Views.{skip_view}
+use Rattle.index_reader.specs.Files.{skip_view}
 use Rattle.model.specs.Summary.{same_text}
 use Rattle.catalogue.specs.Loads.{packages_of_old, needs_of, IsLoaded}
 use Rattle.catalogue.specs.Stores.{candidates_view, rows_view}

@@ -1,7 +1,7 @@
 use Rattle.std.proofs.Common.{◌-◌, length, map, option_map}
-use Rattle.classes.specs.RustVersions.{rust_version_view}
+use Rattle.classes.specs.Classes.{rust_version_view}
 use Rattle.features.specs.Views.{dependency_views}
-use Rattle.index_reader.specs.Views.{skip_view}
+use Rattle.index_reader.specs.Files.{skip_view}
 use Rattle.catalogue.specs.Loads.{packages_of_old, most_names}
 use Rattle.catalogue.proofs.SoFar.{SoFar}
 use Rattle.catalogue.proofs.loading.ask_all.Given as goal

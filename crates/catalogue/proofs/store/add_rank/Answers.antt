@@ -1,5 +1,5 @@
 use Rattle.std.proofs.Common.{arith, sym, ap, ◌∙◌}
-use Rattle.catalogue.specs.Ranks.{same_rank}
+use Rattle.catalogue.specs.Stores.{same_rank}
 use Rattle.catalogue.proofs.Preferences.{with_place, without_place}
 use Rattle.catalogue.proofs.store.add_rank.Goals as goal
 

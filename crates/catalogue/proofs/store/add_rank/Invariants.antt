@@ -1,5 +1,5 @@
 use Rattle.std.proofs.Common.{◌≡◌, ◌≤◌, ◌++◌, map, filter, length, slice_get}
-use Rattle.catalogue.specs.Ranks.{is_ranked, places_down, places_of}
+use Rattle.catalogue.specs.Stores.{is_ranked, places_down, places_of}
 use Rattle.catalogue.proofs.store.add_rank.Given as goal
 
 -- the places added so far and those left to look at are all of them

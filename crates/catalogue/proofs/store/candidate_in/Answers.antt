@@ -1,6 +1,6 @@
 use Rattle.std.proofs.Common.{◌∙◌, sym, ap, option_map}
 use Rattle.semver.specs.Identifiers.{parts_of}
-use Rattle.catalogue.specs.Views.{said, said_by}
+use Rattle.catalogue.specs.Stores.{said, said_by}
 use Rattle.catalogue.proofs.Found.{versions_rise, none_found, candidate_found}
 use Rattle.catalogue.proofs.Rows.{item_at}
 use Rattle.catalogue.proofs.store.candidate_in.Goals as goal

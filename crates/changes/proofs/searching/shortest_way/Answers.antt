@@ -2,7 +2,7 @@ use Rattle.std.proofs.Common.{◌≡◌, ◌∙◌, Bool, List, Some, ap, option
 use Rattle.std.specs.List.{find}
 use Rattle.semver.specs.Identifiers.{parts_of}
 use Rattle.lockfile.specs.inner.Views.{package_views}
-use Rattle.model.specs.Content.{Content, Package}
+use Rattle.model.specs.Content.{Package}
 use Rattle.changes.specs.inner.Searches.{AreLed, IsBehind, IsLed, is_end}
 use Rattle.changes.specs.inner.Ways.{is_meant, is_own}
 use Rattle.changes.specs.declared.searching.Visit.{Visit}

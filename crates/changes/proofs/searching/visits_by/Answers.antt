@@ -2,10 +2,9 @@ use Rattle.std.proofs.Common.{rules, ◌≡◌, ◌<◌, ◌∙◌, Bool, false,
 use Rattle.std.proofs.Common.{subst, sym, arith}
 use Rattle.std.specs.List.{All}
 use Rattle.std.proofs.lemmas.List.{length-map, length-replicate}
-use Rattle.std.proofs.lemmas.Option.{slice_get_within}
 use Rattle.lockfile.specs.inner.Views.{package_view, package_views}
 use Rattle.model.specs.Content.{Package, list_if}
-use Rattle.changes.specs.inner.Searches.{places_below, seen_with, visited}
+use Rattle.changes.specs.inner.Searches.{places_below}
 use Rattle.changes.specs.inner.Ways.{is_own}
 use Rattle.changes.proofs.Searched.{begun_by, list_within, roots_within, searched, stepped_by}
 use Rattle.changes.proofs.searching.visits_by.Goals as goal

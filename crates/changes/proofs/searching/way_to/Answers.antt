@@ -1,7 +1,5 @@
-use Rattle.std.proofs.Common.{rules, ◌≡◌, ◌+◌, ◌++◌, ◌∷◌, [], Bool, true, length, reverse, refl, ap, subst, ◌∙◌, arith}
+use Rattle.std.proofs.Common.{rules, ◌≡◌, ◌+◌, ◌++◌, ◌∷◌, [], true, length, reverse, ap, ◌∙◌, arith}
 use Rattle.std.proofs.lemmas.List.{length-append, length-reverse}
-use Rattle.model.specs.Content.{Content, Package}
-use Rattle.changes.specs.inner.Searches.{AreLed, IsLed, is_end}
 use Rattle.changes.specs.inner.Ways.{is_way, leads}
 use Rattle.changes.proofs.Leading.{back, before_nearer, before_within, way_back}
 use Rattle.changes.proofs.searching.way_to.Goals as goal

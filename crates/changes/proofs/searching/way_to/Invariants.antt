@@ -1,6 +1,6 @@
 use Rattle.std.proofs.Common.{◌≡◌, ◌+◌, Bool, true, length, reverse}
 use Rattle.model.specs.Content.{Content, Package}
-use Rattle.changes.specs.inner.Searches.{AreBehind, AreLed, IsBehind, IsLed, is_end}
+use Rattle.changes.specs.inner.Searches.{AreLed, IsBehind, IsLed, is_end}
 use Rattle.changes.specs.inner.Ways.{leads}
 use Rattle.changes.proofs.searching.way_to.Given as goal
 

@@ -1,5 +1,5 @@
 use Rattle.std.proofs.Common.{◌≡◌, true, rules}
-use Rattle.classes.specs.Numbers.{is_plain_number}
+use Rattle.classes.specs.Classes.{is_plain_number}
 use Rattle.classes.proofs.Numerals.{refused}
 use Rattle.classes.proofs.numbers.whole_number.Goals as goal
 

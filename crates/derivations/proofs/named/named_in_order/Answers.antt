@@ -5,7 +5,7 @@ use Rattle.std.proofs.lemmas.List.Sorted.{answers_always, IsPermutation-trans, r
 use Rattle.derivations.specs.inner.Building.{ordered_term}
 use Rattle.derivations.specs.inner.Derivations.{term_cmp}
 use Rattle.derivations.specs.inner.Named.{named_views, set_in_order_view, set_in_order_views}
-use Rattle.model.specs.Sorting.{in_order}
+use Rattle.model.specs.Order.{in_order}
 use Rattle.derivations.proofs.BuildingLaws.{term_total, terms-apart}
 use Rattle.model.proofs.Sorting.{sorted-run}
 use Rattle.derivations.proofs.named.named_in_order.Goals as goal

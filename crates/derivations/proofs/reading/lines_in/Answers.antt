@@ -1,7 +1,7 @@
 use Rattle.std.proofs.Common.{rules}
 use Rattle.std.proofs.lemmas.Iterator.Consumers.{map_from_collect}
 use Rattle.std.proofs.lemmas.Iterator.Splits.{YieldsList-from_slice_split}
-use Rattle.trees.specs.Lines.{is_line_end}
+use Rattle.trees.specs.Trees.{is_line_end}
 use Rattle.derivations.proofs.reading.lines_in.Goals as goal
 
 pub returns : goal.returns

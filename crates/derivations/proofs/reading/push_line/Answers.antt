@@ -1,7 +1,7 @@
 use Rattle.std.proofs.Common.{◌≡◌, arith, false, true, length, nat_lt, Ok, sym, ap, ◌∙◌}
 use Rattle.std.proofs.lemmas.Bool.{lt-ltb}
 use Rattle.derivations.specs.Files.{most_steps}
-use Rattle.trees.specs.Lines.{is_blank}
+use Rattle.trees.specs.Trees.{is_blank}
 use Rattle.derivations.specs.Steps.{step_of_line}
 use Rattle.derivations.specs.inner.Tables.{step_at}
 use Rattle.derivations.proofs.LineLaws.{one-read}

@@ -6,7 +6,7 @@ use Rattle.semver.specs.Identifiers.{parts_of}
 use Rattle.model.specs.Selection.{Class, class_of}
 use Rattle.model.specs.Summary.{Summary}
 use Rattle.model.specs.Vertices.{Vertex, pkg, version_of}
-use Rattle.catalogue.specs.Views.{said_by}
+use Rattle.catalogue.specs.Stores.{said_by}
 use Rattle.catalogue.specs.declared.candidate.Candidate.{Candidate}
 use Rattle.numbering.specs.inner.KnownProblem.{problem}
 use Rattle.lookups.proofs.Brought.{is_there, not_there}

@@ -1,7 +1,7 @@
 use Rattle.std.proofs.Common.{refl, sym, subst}
 use Rattle.catalogue.specs.Problems.{problem_in}
 use Rattle.model.specs.Selection.{IsRootAt}
-use Rattle.model.specs.WellFormed.{IsContent}
+use Rattle.model.specs.Order.{IsContent}
 use Rattle.selection.specs.inner.Places.{AreFound}
 use Rattle.selection.proofs.Composing.{beside}
 use Rattle.flaws.specs.inner.Flaws.{AreTold}

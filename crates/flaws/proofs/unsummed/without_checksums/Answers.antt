@@ -1,5 +1,5 @@
 use Rattle.std.proofs.Common.{map, subst, sym, ap, ◌∙◌}
-use Rattle.model.specs.WellFormed.{IsContent}
+use Rattle.model.specs.Order.{IsContent}
 use Rattle.flaws.specs.inner.Unsummed.{without_checksum}
 use Rattle.flaws.proofs.StillContent.{still_content}
 use Rattle.flaws.proofs.unsummed.without_checksums.Goals as goal

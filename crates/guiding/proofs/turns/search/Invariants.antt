@@ -13,7 +13,8 @@ invariant-turns g l = let tests = g.S.States.tests in record {
   caught : IsCaught (g.G.Guide.asked l.guide) (trail_view tests l.trail);
   seen : IsSeen (g.G.Guide.seen l.guide) (g.G.Guide.asked l.guide) (trail_view tests l.trail);
   spaces : HasSpaces (g.G.Guide.spaces l.guide) (trail_view tests l.trail);
-  counted : HasCounted (combinations (entries_view tests l.store)) (combinations (entries_view tests l.fn.store)) l.steps;
+  counted : HasCounted (combinations (entries_view tests l.store))
+      (combinations (entries_view tests l.fn.store)) l.steps;
   keeps : g.G.Guide.keeps l.fn.guide l.guide;
   given : AreGiven (g.G.Guide.given l.fn.guide) (entries_view tests l.fn.store)
       → AreGiven (g.G.Guide.given l.guide) (entries_view tests l.store);

@@ -17,7 +17,8 @@ terms-init g c =
           c.requires.apart;
       sets = entering_first (λ t. t.states) c.args.sets.now.items c.args.terms.items _ gives.0 c.requires.sets
           c.requires.apart;
-      extents = entering_first (λ t. extent (g.S.States.tests t.states)) c.args.extents.now.items c.args.terms.items _ gives.0
+      extents =
+          entering_first (λ t. extent (g.S.States.tests t.states)) c.args.extents.now.items c.args.terms.items _ gives.0
           c.requires.extents c.requires.apart;
     }
 
@@ -33,7 +34,8 @@ pub push_at-requires-in-terms : goal.push_at-requires-in-terms
 push_at-requires-in-terms g c =
     let here : into_iter_items c.terms.term-iterator ≡ c.in-Some.term ∷ into_iter_items c.next.new.self =
     c.in-Some.ensures.steps.0 in
-    first_room (λ t. extent (g.S.States.tests t.states)) c.args.extents.now.items c.terms.extents.items c.args.terms.items
+    first_room
+        (λ t. extent (g.S.States.tests t.states)) c.args.extents.now.items c.terms.extents.items c.args.terms.items
     (into_iter_items c.terms.term-iterator)
     (into_iter_items c.next.new.self) c.in-Some.term here c.terms.invariant.extents
 
@@ -70,7 +72,8 @@ terms-preserved g c =
           c.push_at-in-terms.new.rows.items c.args.terms.items (into_iter_items c.terms.term-iterator)
           (into_iter_items c.next.new.self) c.in-Some.term here
           (subst (λ n. row_at c.push_at-in-terms.new.rows.items c.in-Some.term.vertex
-          ≡ row_at c.terms.extents.items c.in-Some.term.vertex ++ n ∷ []) c.extent_of.ensures c.push_at-in-terms.ensures.here)
+          ≡ row_at c.terms.extents.items c.in-Some.term.vertex ++ n
+          ∷ []) c.extent_of.ensures c.push_at-in-terms.ensures.here)
           c.push_at-in-terms.ensures.others c.push_at-in-terms.ensures.room c.terms.invariant.extents;
     }
 
@@ -92,5 +95,6 @@ pub returns-clause-extents : goal.returns-clause-extents
 returns-clause-extents g c =
     let none : into_iter_items c.terms.term-iterator ≡ [] = none_left (into_iter_len c.terms.term-iterator)
     (into_iter_items c.terms.term-iterator) c.terms.invariant.counted c.in-None.ensures.steps.0 in
-    entering_last (λ t. extent (g.S.States.tests t.states)) c.args.extents.now.items c.terms.extents.items c.args.terms.items
+    entering_last
+        (λ t. extent (g.S.States.tests t.states)) c.args.extents.now.items c.terms.extents.items c.args.terms.items
     (into_iter_items c.terms.term-iterator) none c.terms.invariant.extents

@@ -1,7 +1,7 @@
 use Rattle.std.proofs.Common.{◌≡◌, take}
 use Rattle.features.specs.inner.Tables.{dep_names_view}
 use Rattle.index_lines.specs.inner.ShapeViews.{line_dependency_views}
-use Rattle.index_lines.specs.Written.{dep_names_of}
+use Rattle.index_lines.specs.Records.{dep_names_of}
 use Rattle.index_lines.proofs.written.dep_names.Given as goal
 
 -- the names so far are those of the dependencies so far

@@ -1,6 +1,6 @@
 use Rattle.std.proofs.Common.{◌≡◌, drop}
 use Rattle.features.specs.EntryViews.{entry_views}
-use Rattle.index_lines.specs.Written.{entries_read}
+use Rattle.index_lines.specs.Records.{entries_read}
 use Rattle.features.specs.Views.{text_views}
 use Rattle.model.proofs.Fronts.{with_front}
 use Rattle.index_lines.proofs.written.entries.Given as goal

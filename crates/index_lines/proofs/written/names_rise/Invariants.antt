@@ -2,7 +2,7 @@ use Rattle.std.proofs.Common.{◌≡◌, [], drop}
 use denote.Shadow.{shadow}
 use denote.Text.{Utf8}
 use Rattle.index_lines.specs.inner.ShapeViews.{feature_views}
-use Rattle.index_lines.specs.Written.{names_rise}
+use Rattle.index_lines.specs.Records.{names_rise}
 use Rattle.index_lines.proofs.written.names_rise.Given as goal
 
 -- all rise where those that are left rise after the one before

@@ -1,7 +1,7 @@
 use Rattle.std.proofs.Common.{◌≡◌, drop}
 use Rattle.features.specs.inner.Tables.{rows_of}
 use Rattle.index_lines.specs.inner.ShapeViews.{feature_views}
-use Rattle.index_lines.specs.Written.{features_read}
+use Rattle.index_lines.specs.Records.{features_read}
 use Rattle.model.proofs.Fronts.{with_front}
 use Rattle.index_lines.proofs.written.rows.Given as goal
 

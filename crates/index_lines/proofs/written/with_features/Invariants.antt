@@ -1,7 +1,7 @@
 use Rattle.std.proofs.Common.{◌≡◌, drop}
 use Rattle.features.specs.inner.Tables.{rows_of}
 use Rattle.index_lines.specs.inner.ShapeViews.{feature_views}
-use Rattle.index_lines.specs.Written.{with_features}
+use Rattle.index_lines.specs.Records.{with_features}
 use Rattle.index_lines.proofs.written.with_features.Given as goal
 
 -- the features so far, with those that are left, are all of them

@@ -1,6 +1,6 @@
 use Rattle.std.proofs.Common.{◌≡◌, ◌+◌, ◌≤◌, length}
 use Rattle.std.specs.List.{slice_split}
-use Rattle.trees.specs.Lines.{is_line_end}
+use Rattle.trees.specs.Trees.{is_line_end}
 use Rattle.index_reader.proofs.file.line_ends.Given as goal
 
 -- the line ends so far, with the texts of what is left, are as many as the texts of all

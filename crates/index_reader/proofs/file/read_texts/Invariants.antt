@@ -1,6 +1,5 @@
 use Rattle.std.proofs.Common.{◌≡◌, ◌+◌, map, drop}
-use Rattle.index_reader.specs.Files.{with_lines, no_lines}
-use Rattle.index_reader.specs.Views.{file_view}
+use Rattle.index_reader.specs.Files.{with_lines, no_lines, file_view}
 use Rattle.index_reader.proofs.file.read_texts.Given as goal
 
 -- the file so far, with the lines that are left, is the file with all of them

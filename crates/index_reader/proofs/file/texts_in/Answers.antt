@@ -2,7 +2,7 @@ use Rattle.std.proofs.Common.{◌≡◌, ◌+◌, ◌-◌, ◌++◌, ◌∷◌, 
 use Rattle.std.proofs.Common.{take_all, length-drop}
 use Rattle.std.proofs.lemmas.List.{map-append}
 use Rattle.std.specs.List.{slice_split}
-use Rattle.trees.specs.Lines.{is_line_end}
+use Rattle.trees.specs.Trees.{is_line_end}
 use Rattle.index_reader.proofs.SplitLemmas.{split-at, split-none}
 use Rattle.index_reader.proofs.file.texts_in.Goals as goal
 

@@ -1,6 +1,6 @@
 use Rattle.std.proofs.Common.{◌≡◌, ◌≤◌, ◌++◌, length, map}
 use Rattle.std.specs.List.{slice_split}
-use Rattle.trees.specs.Lines.{is_line_end}
+use Rattle.trees.specs.Trees.{is_line_end}
 use Rattle.index_reader.proofs.file.texts_in.Given as goal
 
 -- the texts so far, with those of what is left, are those of all

@@ -1,6 +1,6 @@
 use Rattle.std.proofs.Common.{◌≡◌, ◌∙◌, sym, ap, subst}
 use Rattle.std.specs.Str.{IsAscii}
-use Rattle.index_reader.specs.Paths.{lower}
+use Rattle.index_reader.specs.Folders.{lower}
 use Rattle.index_reader.proofs.PathLemmas.{lower_is_ascii}
 use Rattle.index_reader.proofs.path.index_path.Goals as goal
 

@@ -1,7 +1,7 @@
 use Rattle.std.proofs.Common.{◌∙◌, sym, ap}
 use Rattle.semver.specs.Identifiers.{parts_of}
 use Rattle.model.specs.Vertices.{owner_brings}
-use Rattle.catalogue.specs.Views.{said_by}
+use Rattle.catalogue.specs.Stores.{said_by}
 use Rattle.lookups.specs.inner.Views.{problem_view}
 use Rattle.features.specs.Views.{brings_view}
 use Rattle.vertices.specs.inner.RefViews.{owner_ref_view}

@@ -1,5 +1,5 @@
 use Rattle.std.proofs.Common.{◌≡◌, ◌++◌, ◌∷◌, true, not, map, drop}
-use Rattle.catalogue.specs.Views.{said_by}
+use Rattle.catalogue.specs.Stores.{said_by}
 use Rattle.model.specs.Summary.{has_feature}
 use Rattle.numbering.proofs.space_tests.lacking_tests.Given as goal
 

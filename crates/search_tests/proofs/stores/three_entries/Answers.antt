@@ -1,7 +1,4 @@
-use Rattle.std.proofs.Common.{length, subst, sym, true}
 use Rattle.incompatibilities.specs.Incompatibilities.{states_at}
-use Rattle.incompatibilities.specs.Stores.{OriginFits, entries_view}
-use Rattle.incompatibilities.specs.declared.origin.Origin.TheVariants.{Axiom}
 use Rattle.terms.specs.Terms.{terms_view}
 use Rattle.search_tests.specs.inner.Spaces.{space}
 use Rattle.incompatibilities.proofs.Broken.{lies_fit}

@@ -1,5 +1,5 @@
 use Rattle.std.proofs.Common.{◌-◌, sym}
-use Rattle.catalogue.specs.Views.{said_by}
+use Rattle.catalogue.specs.Stores.{said_by}
 use Rattle.selection.proofs.MetVersions.{got_item, met_brings, met_there, within}
 use Rattle.selection.proofs.bringing.brings_at.Goals as goal
 
@@ -8,7 +8,8 @@ record-requires c =
     let s = c.in_ok-met.met.now in
     let got = got_item c.args.versions.now
     (c.args.place - 1) c.get.result c.in_ok-met.met c.get.ensures.lookup c.in_ok-met.was in
-    within c.args.catalogue.now s (met_there c.args.catalogue.now c.args.versions.now (c.args.place - 1) s c.requires got)
+    within c.args.catalogue.now s
+        (met_there c.args.catalogue.now c.args.versions.now (c.args.place - 1) s c.requires got)
 
 pub returns : goal.returns
 returns c =

@@ -2,7 +2,7 @@ use Rattle.std.proofs.Common.{rules, ◌≡◌, Some, map, option_map, string_by
 use Rattle.std.proofs.lemmas.Option.{slice_get-map}
 use Rattle.model.proofs.Places.{map_at}
 use Rattle.semver.specs.Identifiers.{parts_of}
-use Rattle.catalogue.specs.Views.{said_by}
+use Rattle.catalogue.specs.Stores.{said_by}
 use Rattle.selection.proofs.MetVersions.{got_item, no_version, met_package_is, within}
 use Rattle.selection.proofs.RankLists.{no_item}
 use Rattle.selection.proofs.building.met_package.Goals as goal

@@ -1,7 +1,6 @@
 use Rattle.std.proofs.Common.{◌≡◌, sym, subst}
 use Rattle.model.specs.Candidates.{is_locked}
-use Rattle.catalogue.specs.Ranks.{AreRanked}
-use Rattle.catalogue.specs.Stores.{ranked_at}
+use Rattle.catalogue.specs.Stores.{AreRanked, ranked_at}
 use Rattle.selection.specs.Preferred.{preferred_by}
 use Rattle.catalogue.specs.Problems.{preferred_in}
 use Rattle.selection.proofs.Preferences.{rows_ranked, rows_prefer}

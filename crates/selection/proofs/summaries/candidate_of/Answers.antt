@@ -1,6 +1,6 @@
 use Rattle.std.proofs.Common.{◌∙◌, sym, true, false}
 use Rattle.lockfile.specs.inner.Views.{package_view}
-use Rattle.catalogue.specs.Views.{said_by}
+use Rattle.catalogue.specs.Stores.{said_by}
 use Rattle.selection.proofs.Lookups.{not_found, is_found}
 use Rattle.selection.proofs.summaries.candidate_of.Goals as goal
 

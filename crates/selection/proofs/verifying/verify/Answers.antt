@@ -1,6 +1,6 @@
 use Rattle.std.proofs.Common.{sym, subst}
 use Rattle.catalogue.specs.Problems.{problem_in}
-use Rattle.model.specs.WellFormed.{IsContent}
+use Rattle.model.specs.Order.{IsContent}
 use Rattle.selection.specs.inner.Places.{AreFound}
 use Rattle.selection.proofs.Composing.{beside, said_of, rootless_said, selected}
 use Rattle.selection.proofs.verifying.verify.Goals as goal

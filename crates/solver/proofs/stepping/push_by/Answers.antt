@@ -2,8 +2,7 @@ use Rattle.std.proofs.Common.{length, Some, sym, ap, ◌∙◌, subst}
 use Rattle.std.proofs.lemmas.Result.{on_ok_weaker}
 use Rattle.model.specs.Derivation.{combine, given}
 use Rattle.model.proofs.Members.{element}
-use Rattle.vertices.specs.Kinds.{kind_view}
-use Rattle.vertices.specs.Texts.{IsReadVertex}
+use Rattle.vertices.specs.Texts.{kind_view, IsReadVertex}
 use Rattle.derivations.specs.inner.Building.{ordered_terms}
 use Rattle.derivations.specs.inner.Named.{named_views}
 use Rattle.solver.specs.Refusing.{AreThere, IsNamed}

@@ -1,6 +1,6 @@
 use Rattle.std.proofs.Common.{◌≡◌, ◌||◌, ℕ, List, drop}
 use Rattle.std.specs.List.{list_any}
-use Rattle.catalogue.specs.Views.{said_by}
+use Rattle.catalogue.specs.Stores.{said_by}
 use Rattle.features.specs.inner.Texts.{has_text}
 use Rattle.model.specs.Summary.{has_feature}
 use Rattle.axioms.proofs.instances.features_had.features_had.Given as goal

@@ -1,6 +1,5 @@
 use Rattle.std.proofs.Common.{◌∙◌, sym, ap, map}
-use Rattle.catalogue.specs.Ranks.{records}
-use Rattle.catalogue.specs.Views.{said}
+use Rattle.catalogue.specs.Stores.{records, said}
 use Rattle.catalogue.proofs.Found.{all_said}
 use Rattle.catalogue.proofs.Rows.{of_row}
 use Rattle.catalogue.proofs.store.Catalogue.candidates.Goals as goal

@@ -1,8 +1,7 @@
 use Rattle.std.proofs.Common.{◌≡◌, ◌∙◌, ◌<◌, sym, ap, subst, slice_get, Some, map, length, option_map}
 use Rattle.std.proofs.lemmas.Option.{slice_get-get_or, slice_get-map}
 use Rattle.std.proofs.lemmas.List.{length-map}
-use Rattle.catalogue.specs.Stores.{candidates_at}
-use Rattle.catalogue.specs.Views.{said, said_by}
+use Rattle.catalogue.specs.Stores.{candidates_at, said, said_by}
 use Rattle.catalogue.proofs.store.Catalogue.record.Goals as goal
 
 pub returns : goal.returns

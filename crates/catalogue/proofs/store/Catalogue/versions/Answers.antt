@@ -1,5 +1,5 @@
 use Rattle.std.proofs.Common.{◌∙◌, sym, ap, map}
-use Rattle.catalogue.specs.Ranks.{records}
+use Rattle.catalogue.specs.Stores.{records}
 use Rattle.catalogue.proofs.Found.{versions_seen, versions_rise}
 use Rattle.catalogue.proofs.Rows.{of_row}
 use Rattle.catalogue.proofs.store.Catalogue.versions.Goals as goal

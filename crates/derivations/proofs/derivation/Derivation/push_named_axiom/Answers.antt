@@ -1,6 +1,6 @@
 use Rattle.std.proofs.Common.{length, subst, sym}
 use Rattle.model.specs.Derivation.{given}
-use Rattle.vertices.specs.Kinds.{kind_view}
+use Rattle.vertices.specs.Texts.{kind_view}
 use Rattle.derivations.specs.inner.Derivations.{IsStepAt}
 use Rattle.derivations.specs.inner.Named.{named_views}
 use Rattle.derivations.proofs.BuildingLaws.{terms-are}

@@ -2,10 +2,10 @@ use Rattle.std.proofs.Common.{◌≡◌, ◌<◌, ◌≤◌, ◌+◌, ◌++◌, 
 use Rattle.std.proofs.lemmas.List.{map-append}
 use Rattle.terms.specs.Terms.{terms_view}
 use Rattle.terms.specs.declared.term.Term.{Term}
-use Rattle.vertices.specs.Kinds.{kind_view}
+use Rattle.vertices.specs.Texts.{kind_view}
 use Rattle.vertices.specs.declared.kind.Kind.{Kind}
 use Rattle.model.specs.Vertices.{space}
-use Rattle.model.specs.WellFormed.{IsCatalogue}
+use Rattle.model.specs.Order.{IsCatalogue}
 use Rattle.numbering.specs.GivenViews.{given_views}
 use Rattle.encoding.specs.Encodings.{EncodingView}
 use Rattle.encoding.specs.Everywhere.{IsGivenFor}

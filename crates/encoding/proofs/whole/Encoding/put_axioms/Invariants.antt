@@ -5,5 +5,6 @@ use Rattle.encoding.proofs.whole.Encoding.put_axioms.Given as goal
 
 -- the instances of the vertices before this one, and of this one in the states so far
 abbrev pub invariant-states : goal.invariant-states
-invariant-states g l = IsGivenFor l.self.problem l.self.vertices (so_far l.self.problem l.self.vertices l.vertex l.state)
+invariant-states g l =
+    IsGivenFor l.self.problem l.self.vertices (so_far l.self.problem l.self.vertices l.vertex l.state)
     (given_views g.S.States.tests l.given.items)

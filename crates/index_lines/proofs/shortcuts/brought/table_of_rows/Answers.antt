@@ -4,7 +4,7 @@ use Rattle.model.specs.Tables.{table_of}
 use Rattle.features.specs.inner.Tables.{dep_names_view, rows_of}
 use Rattle.index_lines.specs.inner.Rows.{braced, row_texts, row_views}
 use Rattle.index_lines.specs.Shapes.{wants_memory}
-use Rattle.index_lines.specs.Written.{unless_faulty}
+use Rattle.index_lines.specs.Records.{unless_faulty}
 use Rattle.index_lines.proofs.RowsLemmas.{copies-rise, table-of_rows}
 use Rattle.index_lines.proofs.shortcuts.brought.table_of_rows.Goals as goal
 

@@ -3,7 +3,7 @@ use Rattle.std.specs.List.{find}
 use Rattle.std.proofs.lemmas.Iterator.{YieldsList-from_slice}
 use Rattle.std.proofs.lemmas.Iterator.Search.{find_from_yields_List}
 use Rattle.model.specs.Summary.{same_text}
-use Rattle.vertices.specs.Kinds.{kind_view, kind_text}
+use Rattle.vertices.specs.Texts.{kind_view, kind_text}
 use Rattle.vertices.specs.declared.kind.Kind.{Kind}
 use Rattle.vertices.specs.declared.kind.Kind.TheVariants.{Root, Needed, Target, HasFeature, WantsFeature}
 use Rattle.vertices.specs.declared.kind.Kind.TheVariants.{FeatureOnFeature, FeatureOnDependency, FeatureAsks}

@@ -25,5 +25,6 @@ pub returns-clause-releases : goal.returns-clause-releases
 returns-clause-releases c e =
     let p = c.args.self.now.problem in
     sym (c.are_releases-are.ensures ∙ all_classed p.manifest.now p.catalogue.now c.args.name.now
-    (class_view c.args.class) c.class_versions-versions.result.now c.class_versions-versions.ensures.versions is_release)
+    (class_view c.args.class) c.class_versions-versions.result.now
+        c.class_versions-versions.ensures.versions is_release)
     ∙ e
