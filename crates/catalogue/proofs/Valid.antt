@@ -58,7 +58,7 @@ valid_parts m c brings store = record {
   root_asks = rows_ask m.brings.features brings.features;
   candidates = All-map (λ (row : List ℕ × List Candidate). IsPackageName row.0 × All IsValidRecord row.1) by_name c.rows
       (all_in (λ (row : Row). IsPackageName row.0 × All IsValidRecord (map as_candidate (records row.1))) c.rows
-            (λ row i. (
+      (λ row i. (
         All-contains (λ (row : Row). IsPackageName row.0) c.rows row store.names_valid i,
         valid_records (records row.1)
             (All-contains (λ (row : Row). All (λ (r : Record). IsValid r.version) (records row.1)) c.rows row

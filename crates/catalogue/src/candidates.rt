@@ -17,6 +17,5 @@ pub(crate) struct Candidates {
     ghost read: { AreRead versions.items },
     ghost few: { length candidates.items ≤ most_candidates },
     ghost known: { AreKnown (ranked_view versions.items candidates.items) },
-    ghost valid: { BringValid (records (ranked_view versions.items candidates.items)) }
-        by { bring-valid-prop (records (ranked_view versions.items candidates.items)) },
+    ghost valid: { BringValid (records (ranked_view versions.items candidates.items)) } by { bring-valid-prop (records (ranked_view versions.items candidates.items)) },
 }

@@ -163,7 +163,7 @@ module _ (q : Problem) where
   -- what is asked of dependencies that are called x
   called_are : (o : Owner) (x g : List ℕ) (v : Vertex)
       → ((i : ℕ) (d : Dependency) → HasDep q o i d → d.name ≡ x
-        → Contains (feature_of q d.real_name g) v → IsVertex q v)
+      → Contains (feature_of q d.real_name g) v → IsVertex q v)
       → Contains (asked_of q (owner_brings q o).dependencies x g) v → IsVertex q v
   called_are o x g v is h =
       let ds = (owner_brings q o).dependencies in

@@ -61,5 +61,5 @@ space_at q rows e n r view is lt at v seen = subst (λ (e : EncodingView). n < l
         let less : n < length rows = subst (λ k. n < k) (length-map rows (λ (r : Row). vertex_view r.vertex)) lt in
         let there = slice_get_read rows (length rows) n r refl less at in
         let same : vertex_view r.vertex ≡ v =
-            same_Some (vertex_view r.vertex) v (sym (vertex_of q rows n r there) ∙ seen)
+        same_Some (vertex_view r.vertex) v (sym (vertex_of q rows n r there) ∙ seen)
         in space_of q rows n r is there ∙ ap (λ w. length (space q w)) same

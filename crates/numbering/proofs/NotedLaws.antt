@@ -60,7 +60,7 @@ pub those_at : (l : Listed) (k : NotedKey) → noted_views (if_some (get same_no
     ≡ listed_at l (owner_ref_view (k.0).0) (k.0).1.now (class_view k.1)
 those_at l k =
     ap (λ (o : Option Those). noted_views (if_some o))
-        (lookup_same (same_noted_key k) (of_key k) l.on.entries (key_is k))
+    (lookup_same (same_noted_key k) (of_key k) l.on.entries (key_is k))
 
 -- the key at which something stands
 key_of : (test : NotedKey → Bool) (es : List (NotedKey × Those)) (p : ℕ × Class)
@@ -114,12 +114,12 @@ kept_by old new each o x m p h =
     let k = r.0 in
     subst (λ ps. Contains ps p) (sym (at_key new o x m k r.1)) (subst (λ ps. Contains ps p) (those_at new k)
     (each k p (subst (λ ps. Contains ps p) (sym (those_at old k))
-            (subst (λ ps. Contains ps p) (at_key old o x m k r.1) h))))
+    (subst (λ ps. Contains ps p) (at_key old o x m k r.1) h))))
 
 -- where a key has the same list again, or an empty one
 module _ (old new : Listed) (k : NotedKey) (w : Those)
     (is : (x : NotedKey)
-          → get same_noted_key new.on x ≡ cond (same_noted_key k x) (Some w) (get same_noted_key old.on x))
+    → get same_noted_key new.on x ≡ cond (same_noted_key k x) (Some w) (get same_noted_key old.on x))
     {found : Option Those} (before none : Those) (had : found ≡ get same_noted_key old.on k)
     (or : before ≡ unwrap_or found none) (empty : none.items ≡ []) (same : w.items ≡ before.items) where
   same_list : (x : NotedKey) → if_some (get same_noted_key new.on x) ≡ if_some (get same_noted_key old.on x)
@@ -137,14 +137,14 @@ module _ (old new : Listed) (k : NotedKey) (w : Those)
 -- one that is put behind those of its key
 module _ (old new : Listed) (k : NotedKey) (value : ℕ × code.Class) (w : Those)
     (is : (x : NotedKey)
-          → get same_noted_key new.on x ≡ cond (same_noted_key k x) (Some w) (get same_noted_key old.on x))
+    → get same_noted_key new.on x ≡ cond (same_noted_key k x) (Some w) (get same_noted_key old.on x))
     {found : Option Those} (before none : Those) (had : found ≡ get same_noted_key old.on k)
     (or : before ≡ unwrap_or found none) (empty : none.items ≡ []) (more : w.items ≡ before.items ++ value ∷ []) where
   pushed_views : (x : NotedKey) → noted_views (if_some (get same_noted_key new.on x))
       ≡ noted_views (if_some (get same_noted_key old.on x)) ++ noted_views (cond (same_noted_key k x) (value ∷ []) [])
   pushed_views x =
       ap noted_views
-          (pushed same_noted_key old.on new.on k value w (key_alike old.on k) is before none had or empty more x)
+      (pushed same_noted_key old.on new.on k value w (key_alike old.on k) is before none had or empty more x)
       ∙ map-append (λ (p : ℕ × code.Class). (p.0, class_view p.1)) (if_some (get same_noted_key old.on x))
       (cond (same_noted_key k x) (value ∷ []) [])
 

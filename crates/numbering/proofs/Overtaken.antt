@@ -78,10 +78,10 @@ module _ (q : Problem) (ps : List (ℕ × Class)) where
       by None e h = absurd (in_none c h)
       by (Some d) e h =
           elim (Contains-append_cases (alone_causes q o i k (Some d)) (flat_map (both_of q o i k) ps) c h) [
-        | inl a ↦ named (dep o i) (in_class k) c (first_there q (dep o i) (in_class k) is within c
-            (subst (λ y. Contains (alone_causes q o i k y) c) (sym e) a))
-        | inr b ↦ both_there o i k c b
-      ]
+            | inl a ↦ named (dep o i) (in_class k) c (first_there q (dep o i) (in_class k) is within c
+                (subst (λ y. Contains (alone_causes q o i k y) c) (sym e) a))
+            | inr b ↦ both_there o i k c b
+          ]
 
   pub next_there : (v : Vertex) (s : State) → IsVertex q v → Contains (space q v) s → (c : Cause)
       → Contains (asked_causes q ps v s) c → (is_cause q c ≡ true) × Contains (pairs_of c) (v, s)

@@ -263,7 +263,7 @@ impl<'a> Noted<'a> {
         ensures kept { KeepsNoted self.old self.new }
         ensures noted { OnOk result
             (IsNoted (problem known.now) self.new
-                (dep (owner_ref_view owner.entry) number, state_ref_view state.entry)) }
+            (dep (owner_ref_view owner.entry) number, state_ref_view state.entry)) }
     {
         let StateRef::Class(class) = state else {
             return Ok(());

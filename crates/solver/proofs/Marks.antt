@@ -134,7 +134,7 @@ module _ (es : List EntryView) (last left : ℕ) (ms : List Bool)
               fits = fits here;
               parts =
                   parts_marked (entry es left).origin ms
-                      (subst (λ l. PartsBelow l (entry es left).origin) (sym now.long)
+                  (subst (λ l. PartsBelow l (entry es left).origin) (sym now.long)
                   (parts_below es left (suc last) (entry es left).origin (fits here) (omega (arith, low))));
             })
             | inr o ↦ (let before = now.closed id (omega (arith, le, o)) old in record {

@@ -37,4 +37,4 @@ pub skipped : {X : Type 0} (xs : List X) (m part : Members) (n from to : ℕ) (m
     → IsChosenTo xs m to made
 skipped xs m part n from to made e le is apart before = ap (λ ys. made ++ ys)
     (none_between xs m from (to - from) (n - to) to e (omega (arith, le))
-          (ap (meets m) (sym is) ∙ not-true (meets m part) apart)) ∙ before
+    (ap (meets m) (sym is) ∙ not-true (meets m part) apart)) ∙ before

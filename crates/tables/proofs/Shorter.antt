@@ -207,7 +207,7 @@ key-after (suc n) path text =
     by : (part rest : List ℕ) → length rest ≤ length text
         → If (IsKeyLeft (n + length (path ++ part ∷ [])) (skip_ws (drop 1 rest)))
         (key_after n (path ++ part ∷ []) (skip_ws (drop 1 rest))) → (b : Bool)
-            → If (IsKeyLeft (suc n + length path) text)
+        → If (IsKeyLeft (suc n + length path) text)
         (cond b (key_after n (path ++ part ∷ []) (skip_ws (drop 1 rest))) (Some ((path, part), rest)))
     by part rest h more true =
         let after = skip_ws (drop 1 rest) in

@@ -161,7 +161,7 @@ unfolding along_header
 along_header-adds [] n edit adds ns = grown_more n (0 + n) ns (edit ns) (omega arith) (adds ns)
 along_header-adds (k ∷ path) n edit adds ns =
     grown_more (suc (length path + n)) (suc (length path) + n) ns
-        (by_header k (along_header path edit) ns (get_node k ns))
+    (by_header k (along_header path edit) ns (get_node k ns))
     (omega arith) (by_header-grown (length path + n) (along_header path edit) (along_header-adds path n edit adds) k ns
     (get_node k ns) refl)
 

@@ -20,7 +20,7 @@ returns-in-Some c =
     (one_at (λ (o : Summary). has_feature o.features f) c.args.catalogue.now c.args.name.now c.args.place
     (said_by c.in-Some.candidate.now)
     (sym (ap (option_map (λ (x : Bor Candidate). said_by x.now)) c.in-Some.is)
-          ∙ said_got c.candidates.result.now (candidates_at c.args.catalogue.now c.args.name.now) c.args.place
+    ∙ said_got c.candidates.result.now (candidates_at c.args.catalogue.now c.args.name.now) c.args.place
     c.get.result c.candidates.ensures c.get.ensures.lookup)))
     c.put_table.ensures
 
@@ -29,5 +29,5 @@ returns-in-None c =
     adds_none c.args.known.now _ (λ n f. and-none (same_text n c.args.name.now) _
     (none_at (λ (o : Summary). has_feature o.features f) c.args.catalogue.now c.args.name.now c.args.place
     (sym (ap (option_map (λ (x : Bor Candidate). said_by x.now)) c.in-None.is)
-          ∙ said_got c.candidates.result.now (candidates_at c.args.catalogue.now c.args.name.now) c.args.place
+    ∙ said_got c.candidates.result.now (candidates_at c.args.catalogue.now c.args.name.now) c.args.place
     c.get.result c.candidates.ensures c.get.ensures.lookup)))

@@ -50,7 +50,7 @@ returns-in_err-learned-clause-gained g c =
     let t = trail_view tests c.args.trail.now in
     subst (λ (xs : List EntryView). (gained : List EntryView) × IsGained es t xs gained)
     (sym c.in_err-learned.ensures.err)
-        (gained_again es (entries_view tests c.take_all_up.new.store) (entries_view tests c.lesson_of.new.store) t
+    (gained_again es (entries_view tests c.take_all_up.new.store) (entries_view tests c.lesson_of.new.store) t
     c.take_all_up.ensures.gained c.lesson_of.ensures.gained)
 
 pub returns-clause-gained : goal.returns-clause-gained
@@ -63,7 +63,7 @@ returns-clause-gained g c =
     let lesson = c.in_ok-lesson.lesson in
     let told = c.in_ok-lesson.ensures.lesson in
     gained_again es mid new t
-        (gained_again es (entries_view tests c.take_all_up.new.store) (entries_view tests c.lesson_of.new.store) t
+    (gained_again es (entries_view tests c.take_all_up.new.store) (entries_view tests c.lesson_of.new.store) t
     c.take_all_up.ensures.gained c.lesson_of.ensures.gained)
     (gained_is mid t (terms_view tests lesson.incompatibility) lesson.chain new c.in_ok-learned.learned
     c.lesson_of.ensures.trail told.held told.lone c.in_ok-learned.ensures.kept)

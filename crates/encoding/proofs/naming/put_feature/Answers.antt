@@ -27,7 +27,7 @@ returns c =
     (λ e. e
     ∙ ap (λ ds. vertex_views c.put_in_each.new.vertices.items
     ++ flat_map (of_entry q name v ds) (entry_views c.entries.result.now))
-      (ap dependency_views c.as_slice.ensures.value)
+    (ap dependency_views c.as_slice.ensures.value)
     ∙ ap (λ es. vertex_views c.put_in_each.new.vertices.items ++ of es)
     (c.entries.ensures ∙ entries_are (entries_at f s.features))
     ∙ ap (λ l. l ++ of (entries_or_none (entries_at f s.features))) c.in_ok-put_in_each.ensures

@@ -47,12 +47,12 @@ returns g c =
     let tests = g.S.States.tests in
     IfOk-weaker c.axioms_at.result
     (λ xs. (v : Vertex) → slice_get c.in_ok-table.table c.args.vertex ≡ Some v
-          → IsGivenAt (problem c.known-known.result) new
+    → IsGivenAt (problem c.known-known.result) new
     (v, state_at (problem c.known-known.result) v c.args.state) (given_views tests xs.items))
     (λ xs. (v : Vertex) → slice_get vs c.args.vertex ≡ Some v
     → IsGivenAt q vs (v, state_at q v c.args.state) (given_views tests xs.items))
     (λ xs given v at.
-          subst (λ (r : Problem). IsGivenAt r vs (v, state_at r v c.args.state) (given_views tests xs.items))
+    subst (λ (r : Problem). IsGivenAt r vs (v, state_at r v c.args.state) (given_views tests xs.items))
     p (subst (λ (l : Numbering). IsGivenAt (problem c.known-known.result) l
     (v, state_at (problem c.known-known.result) v c.args.state) (given_views tests xs.items)) same
     (given v (ap (λ l. slice_get l c.args.vertex) t ∙ at))))

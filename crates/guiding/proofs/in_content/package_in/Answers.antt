@@ -12,6 +12,6 @@ returns c =
     let class = class_view c.args.class in
     let content = c.args.content.now in
     c.first_locked.ensures
-        ∙ ap (find (λ p. is_locked name class (package_view p))) (take_rest content c.before_class.result)
+    ∙ ap (find (λ p. is_locked name class (package_view p))) (take_rest content c.before_class.result)
     ∙ find_past (λ p. is_locked name class (package_view p)) content c.before_class.result c.before_class.ensures.few
     (λ k e l u. before_is_other name class (package_view (get_or content k e)) (c.before_class.ensures.place.0 k e l u))

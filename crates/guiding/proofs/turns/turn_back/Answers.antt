@@ -31,7 +31,7 @@ returns-in_ok-propagate-in-Learned-clause-turned g c =
           grows c.in_ok-noted-in-Learned.ensures.left c.in_ok-noted-in-Learned.ensures.late
           (turn_jump (g.G.Guide.asked was) (g.G.Guide.left was) (g.G.Guide.late was) es old mid new c.in-Learned.learned
           c.in-Learned.back_to learned
-              (c.in_ok-outcome.ensures.gained.1.quiet c.requires.searching.quiet) next more.0 more.1
+          (c.in_ok-outcome.ensures.gained.1.quiet c.requires.searching.quiet) next more.0 more.1
           c.requires.searching.falling c.requires.caught c.in_ok-propagate-in-Learned.ensures.trail);
       seen_is = seen_longer (g.G.Guide.seen now) (g.G.Guide.asked now) mid new more.0 more.1.steps more.1.back
           (seen_cut (g.G.Guide.seen was) (g.G.Guide.seen now) c.in-Learned.back_to (g.G.Guide.asked was)

@@ -35,7 +35,7 @@ push_at-requires-in-terms g c =
     let here : into_iter_items c.terms.term-iterator ≡ c.in-Some.term ∷ into_iter_items c.next.new.self =
     c.in-Some.ensures.steps.0 in
     first_room
-        (λ t. extent (g.S.States.tests t.states)) c.args.extents.now.items c.terms.extents.items c.args.terms.items
+    (λ t. extent (g.S.States.tests t.states)) c.args.extents.now.items c.terms.extents.items c.args.terms.items
     (into_iter_items c.terms.term-iterator)
     (into_iter_items c.next.new.self) c.in-Some.term here c.terms.invariant.extents
 
@@ -96,5 +96,5 @@ returns-clause-extents g c =
     let none : into_iter_items c.terms.term-iterator ≡ [] = none_left (into_iter_len c.terms.term-iterator)
     (into_iter_items c.terms.term-iterator) c.terms.invariant.counted c.in-None.ensures.steps.0 in
     entering_last
-        (λ t. extent (g.S.States.tests t.states)) c.args.extents.now.items c.terms.extents.items c.args.terms.items
+    (λ t. extent (g.S.States.tests t.states)) c.args.extents.now.items c.terms.extents.items c.args.terms.items
     (into_iter_items c.terms.term-iterator) none c.terms.invariant.extents

@@ -14,7 +14,7 @@ pub returns-then-not-is_matched-clause-classes : goal.returns-then-not-is_matche
 returns-then-not-is_matched-clause-classes c =
     ap (λ ks. map class_view c.args.classes.now.items ++ ks)
     (passed (matches_views (requirement_view c.args.requirement.now)) c.args.versions.now c.requires.some
-          c.index-versions-0.result
+    c.index-versions-0.result
     c.index-versions-0.is (sym c.is_matched.ensures ∙ c.if-not-is_matched.true))
 
 pub returns-then-not-is_matched-clause-rising : goal.returns-then-not-is_matched-clause-rising

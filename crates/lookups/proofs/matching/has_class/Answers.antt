@@ -11,5 +11,5 @@ returns c =
     let d = dependency_view c.args.dependency.now in
     (rw c.deref.ensures at c.some_within.ensures)
     ∙ any_classed k.manifest.now k.catalogue.now d.real_name
-      (class_view c.args.class) c.class_versions-versions.result.now
+    (class_view c.args.class) c.class_versions-versions.result.now
     c.class_versions-versions.ensures.versions (matches_views d.requirement)

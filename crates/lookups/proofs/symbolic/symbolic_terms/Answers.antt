@@ -11,7 +11,7 @@ returns-in-Entry c =
     let e = c.in-Entry in
     rw e.is (IfOk-weaker c.without.result _ _
     (λ v h. h q
-          ∙ ap (λ t. feature_holds e.name.now (parts_of e.version.now) e.f.now (t ∷ [])) (c.own_feature.ensures q))
+    ∙ ap (λ t. feature_holds e.name.now (parts_of e.version.now) e.f.now (t ∷ [])) (c.own_feature.ensures q))
     c.without.ensures)
 
 pub returns-in-Enabling : goal.returns-in-Enabling
@@ -22,4 +22,4 @@ returns-in-Enabling c = rw c.in-Enabling.is
 pub returns-in-Asking : goal.returns-in-Asking
 returns-in-Asking c = rw c.in-Asking.is
     (IfOk-weaker c.without-in-Asking.result _ _
-          (λ v h. h (problem_view c.args.problem.now)) c.without-in-Asking.ensures)
+    (λ v h. h (problem_view c.args.problem.now)) c.without-in-Asking.ensures)

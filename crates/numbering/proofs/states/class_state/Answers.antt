@@ -13,7 +13,7 @@ use Rattle.numbering.proofs.states.class_state.Goals as goal
 pub returns-in_default : goal.returns-in_default
 returns-in_default c =
     c.class_at.ensures ∙ classes_are_states (problem c.args.known.now)
-        (owner_ref_view c.args.owner.now) c.args.dependency [] c.args.number
+    (owner_ref_view c.args.owner.now) c.args.dependency [] c.args.number
     (ap (classes_if (problem c.args.known.now)) c.in_default.ensures)
 
 pub returns-in-Some-classes : goal.returns-in-Some-classes

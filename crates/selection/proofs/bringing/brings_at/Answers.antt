@@ -9,7 +9,7 @@ record-requires c =
     let got = got_item c.args.versions.now
     (c.args.place - 1) c.get.result c.in_ok-met.met c.get.ensures.lookup c.in_ok-met.was in
     within c.args.catalogue.now s
-        (met_there c.args.catalogue.now c.args.versions.now (c.args.place - 1) s c.requires got)
+    (met_there c.args.catalogue.now c.args.versions.now (c.args.place - 1) s c.requires got)
 
 pub returns : goal.returns
 returns c =

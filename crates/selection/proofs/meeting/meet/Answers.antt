@@ -58,7 +58,7 @@ versions-preserved c =
     at c.in_ok-targets.ensures.picks in
     let more = one_more q (PicksFollowed c.args.all asked (owners_of index new) q rows) index old new
     (node_views nodes) _ _
-        (so_far_on c.args.all asked q rows index c.store_holds.ensures old new grows (node_views nodes)
+    (so_far_on c.args.all asked q rows index c.store_holds.ensures old new grows (node_views nodes)
     c.versions.invariant.0) (rw length-map (omega (arith, test, len, wide))) grows
     (λ o at. c.brings_at-brings.ensures o (subst (λ ks. slice_get (owners_of index ks) c.len-place.result ≡ Some o)
     (sym c.as_slice.ensures.keys) (ap (slice_get (owners_of index old)) even ∙ at)))

@@ -28,7 +28,7 @@ returns-in_ok-copy-in-Axiom g c =
     let is = ap (λ k. (entry es k).origin) (sym c.new.ensures) ∙ sym c.origin.ensures.value ∙ c.in-Axiom.is in
     IfOk-weaker c.push.result _ _ (λ p h. subst (PutIf es fs new c.args.id p) (sym here)
     (subst (λ o. IsPut es fs new c.args.id p (links_in o) (given_in o)) (sym is) (put_axiom es fs new c.args.id p
-            c.in-Axiom.kind (terms_view tests c.in_ok-copy-in-Axiom.copy) c.requires.within
+    c.in-Axiom.kind (terms_view tests c.in_ok-copy-in-Axiom.copy) c.requires.within
     is
     (c.in_ok-copy-in-Axiom.ensures ∙ c.get.ensures.value ∙ ap (λ k. (entry es k).terms) c.new-in-Axiom.ensures)
     c.requires.founded h.0 h.1))) c.push.ensures

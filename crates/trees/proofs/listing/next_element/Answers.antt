@@ -22,12 +22,12 @@ returns-in-Some c =
     let tokens = c.in-Tokens.tokens in
     let next = c.in-Some.ensures.value (items_from tokens.items) (in_items tokens.items tokens.has_items) in
     ap left_items c.in-Tokens.is ∙ ap items_of next.2
-        ∙ sym (ap (λ js. item (data_of next.0) (items_of js)) (items_from-read c.next.new.self next.1 next.4))
+    ∙ sym (ap (λ js. item (data_of next.0) (items_of js)) (items_from-read c.next.new.self next.1 next.4))
     ∙ sym (ap (λ j. item (data_of j) (items_of (items_from c.next.new.self)))
-        (json_from-read c.in-Some.element next.0 next.3))
+    (json_from-read c.in-Some.element next.0 next.3))
 
 pub returns-in-None : goal.returns-in-None
 returns-in-None c =
     let tokens = c.in-Tokens.tokens in
     ap left_items c.in-Tokens.is
-        ∙ ap items_of (c.in-None.ensures.value (items_from tokens.items) (in_items tokens.items tokens.has_items))
+    ∙ ap items_of (c.in-None.ensures.value (items_from tokens.items) (in_items tokens.items tokens.has_items))

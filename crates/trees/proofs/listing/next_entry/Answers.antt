@@ -22,12 +22,12 @@ returns-in-Some c =
     let key = c.in-Some.key.now in
     let next = c.in-Some.ensures.value (members_from tokens.members) (in_members tokens.members tokens.has_members) in
     ap left c.in-Tokens.is ∙ ap listed next.2
-        ∙ sym (ap (λ ms. (key, data_of next.0) ∷ listed ms) (members_from-read c.next.new.self next.1 next.4))
+    ∙ sym (ap (λ ms. (key, data_of next.0) ∷ listed ms) (members_from-read c.next.new.self next.1 next.4))
     ∙ sym (ap (λ j. (key, data_of j) ∷ listed (members_from c.next.new.self))
-        (json_from-read c.in-Some.element next.0 next.3))
+    (json_from-read c.in-Some.element next.0 next.3))
 
 pub returns-in-None : goal.returns-in-None
 returns-in-None c =
     let tokens = c.in-Tokens.tokens in
     ap left c.in-Tokens.is ∙ ap listed
-        (c.in-None.ensures.value (members_from tokens.members) (in_members tokens.members tokens.has_members))
+    (c.in-None.ensures.value (members_from tokens.members) (in_members tokens.members tokens.has_members))

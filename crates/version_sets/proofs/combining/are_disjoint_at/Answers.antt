@@ -24,5 +24,5 @@ returns c =
     kept_decide bit_and c.args.a.now c.args.b.now c.args.from c.args.to c.overlap-first.result.0
     c.overlap-first.result.1 c.overlap-first.ensures c.own.result.now c.own-2.result.now c.are_disjoint.result
     c.own.ensures c.own-2.ensures c.are_disjoint.ensures
-        (c.are_disjoint_by_word.ensures.0 c.if-not-are_disjoint_by_word.false)
+    (c.are_disjoint_by_word.ensures.0 c.if-not-are_disjoint_by_word.false)
     (c.are_disjoint_by_word-2.ensures.0 c.if-not-are_disjoint_by_word-2.false)

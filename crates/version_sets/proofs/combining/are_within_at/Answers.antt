@@ -24,5 +24,5 @@ returns c =
     kept_decide and_not c.args.a.now c.args.b.now c.args.from c.args.to c.overlap-first.result.0
     c.overlap-first.result.1 c.overlap-first.ensures c.own.result.now c.own-2.result.now c.are_within.result
     c.own.ensures c.own-2.ensures c.are_within.ensures
-        (c.are_within_by_word.ensures.0 c.if-not-are_within_by_word.false)
+    (c.are_within_by_word.ensures.0 c.if-not-are_within_by_word.false)
     (c.are_within_by_word-2.ensures.0 c.if-not-are_within_by_word-2.false)

@@ -17,5 +17,5 @@ invariant_of-self-2 c =
     let put = subst (λ k. Updates same_text c.self.inside.places c.insert.new.self k (Some c.len.result))
     c.in_ok-key.ensures.cases c.in_ok-insert.ensures.updates in
     rw items (more_places names c.args.name c.self.inside.places c.insert.new.self c.self.invariant
-          c.as_str.ensures.name absent
+    c.as_str.ensures.name absent
     (subst (λ n. Updates same_text c.self.inside.places c.insert.new.self c.args.name (Some n)) place put))

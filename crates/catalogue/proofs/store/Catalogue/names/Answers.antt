@@ -9,4 +9,4 @@ returns-clause-names c = rw (← c.self.view_is) (c.as_slice.ensures.keys
 pub returns-clause-store : goal.returns-clause-store
 returns-clause-store c =
     rw (← c.self.view_is)
-        (is_store c.self.inside.names.keys c.self.inside.candidates.items _ _ c.self.invariant.1 c.self.invariant.2)
+    (is_store c.self.inside.names.keys c.self.inside.candidates.items _ _ c.self.invariant.1 c.self.invariant.2)

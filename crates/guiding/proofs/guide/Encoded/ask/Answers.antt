@@ -78,7 +78,7 @@ returns g c =
     let mid = map tests c.come.new.asked.items in
     let last = map tests c.mark.new.asked.items in
     ok_by c.mark.result (λ is. asking_by f.known f.table c.next_axioms_at.new.table asked mid last f.seen f.follows
-          f.to_begin f.to_begin c.args.vertex
+    f.to_begin f.to_begin c.args.vertex
     c.args.state c.args.self.now (trail_view tests c.args.trail.now) (trail_view tests c.come.new.trail)
     (entries_view tests c.args.store.now) (entries_view tests c.put_given.new.store)
     (given_views tests c.in_ok-given.given.items) c.self.view_is c.self.invariant.0 c.next_axioms_at.ensures.grown

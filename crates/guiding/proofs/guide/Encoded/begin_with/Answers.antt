@@ -24,7 +24,7 @@ invariant_of-self g c =
       c.self.invariant.1,
       noted_more (problem f.known) f.table c.first_axioms_at.new.table asked asked f.noted f.noted
           c.self.invariant.0.spaces c.first_axioms_at.ensures.grown (no_more asked)
-              (noted_same f.noted) c.self.invariant.2,
+          (noted_same f.noted) c.self.invariant.2,
     )
 
 pub invariant_of-self-in_err-come : goal.invariant_of-self-in_err-come

@@ -23,7 +23,7 @@ abbrev seen_alone : (g : Over) → goal.In_ok-bring-in-Some g → EncodedView
 seen_alone g c =
     let f = c.self.inside in
     encoded_view (problem f.known) f.table
-        (map g.S.States.tests f.asked.items) c.next_open.new.seen f.follows f.to_begin
+    (map g.S.States.tests f.asked.items) c.next_open.new.seen f.follows f.to_begin
 
 alone_asked : (g : Over) (c : goal.In_ok-bring-in-Some g)
     → IsAsked c.in-Some.vertex c.in-Some.state (seen_alone g c) c.bring.new.self
@@ -94,14 +94,14 @@ abbrev seen_ahead : (g : Over) → goal.In_ok-note-in-Some-2 g → EncodedView
 seen_ahead g c =
     let f = c.self.inside in
     encoded_view (problem f.known) f.table
-        (map g.S.States.tests f.asked.items) c.next_open.new.seen f.follows f.to_begin
+    (map g.S.States.tests f.asked.items) c.next_open.new.seen f.follows f.to_begin
 
 -- the guide at the end, with what the lead is noted to have brought
 abbrev noted : (g : Over) → goal.In_ok-note-in-Some-2 g → EncodedView
 noted g c =
     let here = c.self-in-Some-2.inside in
     encoded_view (problem here.known) here.table
-        (map g.S.States.tests here.asked.items) here.seen here.follows here.to_begin
+    (map g.S.States.tests here.asked.items) here.seen here.follows here.to_begin
 
 ahead_asked : (g : Over) (c : goal.In_ok-note-in-Some-2 g)
     → IsAsked c.in-Some-2.vertex c.in-Some-2.state (seen_ahead g c) c.bring-in-Some-2.new.self

@@ -9,7 +9,7 @@ returns-in_err-push-clause-kept c =
     let w = c.push.new.self in
     let after : Listed = record { on = map_with_value c.in_ok-self.field-0 w } in
     let kept = same_kept c.args.self.now after ((c.args.lead.owner, c.args.name), c.args.at) w
-        (c.in_ok-self.ensures.update.0 w).0
+    (c.in_ok-self.ensures.update.0 w).0
     c.or_insert-those.result.now c.new.result c.in_ok-self.ensures.value c.or_insert-those.ensures.value
     c.new.ensures.items c.in_err-push.ensures.items in
     λ o x m p h. grind (arith, kept o x m p h)
@@ -19,7 +19,7 @@ returns-clause-kept c =
     let w = c.push.new.self in
     let after : Listed = record { on = map_with_value c.in_ok-self.field-0 w } in
     let kept = pushed_kept c.args.self.now after ((c.args.lead.owner, c.args.name), c.args.at)
-        (c.args.lead.number, c.args.lead.class) w
+    (c.args.lead.number, c.args.lead.class) w
     (c.in_ok-self.ensures.update.0 w).0 c.or_insert-those.result.now c.new.result c.in_ok-self.ensures.value
     c.or_insert-those.ensures.value c.new.ensures.items c.in_ok-push.ensures.items in
     λ o x m p h. grind (arith, kept o x m p h)
@@ -29,7 +29,7 @@ returns-clause-listed c =
     let w = c.push.new.self in
     let after : Listed = record { on = map_with_value c.in_ok-self.field-0 w } in
     let there = pushed_there c.args.self.now after ((c.args.lead.owner, c.args.name), c.args.at)
-        (c.args.lead.number, c.args.lead.class) w
+    (c.args.lead.number, c.args.lead.class) w
     (c.in_ok-self.ensures.update.0 w).0 c.or_insert-those.result.now c.new.result c.in_ok-self.ensures.value
     c.or_insert-those.ensures.value c.new.ensures.items c.in_ok-push.ensures.items in
     grind (arith, there)

@@ -22,4 +22,4 @@ returns-in-Some-clause-noted c =
     sym c.dependency_at.ensures ∙ ap (option_map (λ d. dependency_view d.now)) c.in-Some.is in
     on_ok_weaker c.note_lead.result (λ there. subst (λ (s : State). IsNoted q c.note_lead.new.self (dep o i, s))
     (sym (ap state_ref_view c.in-Class.is)) (noted_as q c.note_lead.new.self o i d k at there))
-        c.note_lead.ensures.noted
+    c.note_lead.ensures.noted

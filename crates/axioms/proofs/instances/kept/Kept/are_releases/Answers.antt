@@ -26,5 +26,5 @@ returns-clause-releases c e =
     let p = c.args.self.now.problem in
     sym (c.are_releases-are.ensures ∙ all_classed p.manifest.now p.catalogue.now c.args.name.now
     (class_view c.args.class) c.class_versions-versions.result.now
-        c.class_versions-versions.ensures.versions is_release)
+    c.class_versions-versions.ensures.versions is_release)
     ∙ e
