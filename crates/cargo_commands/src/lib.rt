@@ -3,8 +3,7 @@
 //! Each command reads its files first (`places`), so that one that isn't there is told before anything else, and hands
 //! their bytes and a folder to `outcomes`, which says how it ends (`asking`). The folder counts what it is asked for,
 //! which a terminal shows meanwhile; it is given up before anything is printed. Then what is told is printed, painted
-//! or
-//! not (`showing`), and last the lock is replaced (`running`).
+//! or not (`showing`), and last the lock is replaced (`running`).
 //!
 //! With `-q` errors alone are told, of `why` and `skips` too: then the status is the answer.
 //!

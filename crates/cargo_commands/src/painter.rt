@@ -27,8 +27,7 @@ pub(crate) enum Show {
 }
 
 /// A writer that hands on what it gets as it is, or painted line by line, or not at all; but control characters are
-/// told
-/// by their numbers.
+/// told by their numbers.
 #[derive(Drop)]
 pub(crate) struct Painter<W: Write + Drop> {
     to: W,

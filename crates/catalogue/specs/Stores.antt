@@ -23,8 +23,7 @@ use Rattle.model.specs.Summary as summary
 use Rattle.model.specs.Content as model
 
 -- ---- Where a candidate stands in the order of preference (Cargo book, "Dependency Resolution", yanked versions and
--- "Rust
--- version").
+-- "Rust version").
 
 abbrev pub same_rank : Rank → Rank → Bool
 same_rank Locked Locked = true

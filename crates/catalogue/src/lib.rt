@@ -7,10 +7,8 @@
 //! calls (`Loads`), for any folder.
 //!
 //! Candidates stand oldest first, so a version, a class, or the ends between which a requirement can match
-//! (`bounds.rt`)
-//! are found by search. How each is preferred is kept beside it as a rank, since the locked come first, and then, if
-//! that
-//! is asked for, those that the manifest's Rust version fits.
+//! (`bounds.rt`) are found by search. How each is preferred is kept beside it as a rank, since the locked come first,
+//! and then, if that is asked for, those that the manifest's Rust version fits.
 //!
 //! At most 65,536 names are asked for. The fault comes when one more would be, before the folder is called, so that a
 //! run which needs just as many passes. Names lie in a list with a map of `std` and not in one of `indexmap`, since
@@ -22,8 +20,7 @@
 //! 65,535 a name, and feature tables know their features, so that the laws of `model` hold with no premise
 //! (`catalogues_are_well_formed`); names and versions are valid ones, and dependencies have numbers of 32 bits, for no
 //! file that is read has room for more of them. Over a fixed index a valid selection is one with itself as the old
-//! lock,
-//! and that run asks for no other names (`laws.rt`).
+//! lock, and that run asks for no other names (`laws.rt`).
 #![tactic(auto)]
 
 mod bounds;

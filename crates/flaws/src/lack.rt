@@ -10,8 +10,7 @@
 //!
 //! A layer above may rely on this: where no candidate is matched, the reason is the one that `specs/inner/Lacks` gives
 //! for the lines of the file, and where one is matched, no other is told than a feature that is lacking. Of what the
-//! folder
-//! is asked and of the sentences nothing is stated.
+//! folder is asked and of the sentences nothing is stated.
 
 ghost use Rattle.std.specs.Prelude.{◌≡◌, ◌⊎◌, ◌&&◌, true, false, Some, None, option_copied, option_map};
 ghost use Rattle.std.specs.List.{list_any};

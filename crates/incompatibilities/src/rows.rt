@@ -1,8 +1,7 @@
 //! The index of a store: for each vertex the places of the incompatibilities with a term there, and beside them the
 //! states of that term and their extent, so that who goes through a row reads memory in order: most often these are all
 //! that has to be looked at, and the incompatibility and its terms lie elsewhere. The extent has a row of its own,
-//! since
-//! a large set's words lie elsewhere too.
+//! since a large set's words lie elsewhere too.
 
 ghost use Rattle.incompatibilities.specs.Stores.{extent, lacking};
 ghost use Rattle.incompatibilities.specs.inner.Rows.{HasRoom, IsApart, IsGrown, listed_in, row_at, stands_in};

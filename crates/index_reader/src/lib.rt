@@ -9,8 +9,7 @@
 //! `DiskFolder` is exact over anything that opens files (`Opens`), and of the system's call alone nothing is promised.
 //! Not found is what the system calls so: a folder in the place of a file is a failure of the folder, so that a disk
 //! that fails isn't taken for an empty index. `read_line` knows one line and answers S11, where `read_file` looks for
-//! an
-//! earlier version first, since the lowest number is answered.
+//! an earlier version first, since the lowest number is answered.
 //!
 //! A layer above may rely on this: `read_line` and `read_file` give what the definitions give for the bytes, unless
 //! memory was wanting. No two records of a file have equal precedence, and each feature table knows its features.

@@ -88,8 +88,7 @@ unfoldable pub spelling : Content → List ℕ
 spelling content = head ++ flat_map (λ p. block p (parts_text p.version) (list_texts content p)) content
 
 -- ---- The table that a content is spelled as: what a TOML reader is to find in the spelling, each table's keys in the
--- order
--- of their bytes (TOML 1.0.0; Cargo book, "Cargo.toml vs Cargo.lock").
+-- order of their bytes (TOML 1.0.0; Cargo book, "Cargo.toml vs Cargo.lock").
 
 abbrev pub optional_member : List ℕ → Option (List ℕ) → Members → Members
 optional_member key None rest = rest

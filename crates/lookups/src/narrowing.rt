@@ -50,8 +50,7 @@ fn old_enough(requirement: &VersionReq, versions: &[Version]) -> usize
 
 /// Of versions that are oldest first those before the first that is matched, and those after the last: where all are
 /// releases, what lies between is matched too, as each comparator allows what lies between two that it allows. Where
-/// some
-/// may not be, all are given.
+/// some may not be, all are given.
 pub fn unmatched_ends<'a>(
     requirement: &VersionReq,
     versions: &'a [Version],

@@ -113,8 +113,7 @@ impl<'a> Matched<'a> {
     }
 
     /// Whether it is kept that no version of a name is a pre-release: to look at each takes n times as much where as
-    /// many
-    /// requirements are on n versions.
+    /// many requirements are on n versions.
     pub(crate) fn has_releases_alone(&self, name: &'a PackageName) -> bool
         ensures { OnTrue result (list_all is_release (name_versions (problem_of self.now) name.now) ≡ true) }
     {

@@ -2,9 +2,8 @@
 //! one.
 //!
 //! A command prints nothing itself: it adds to two texts (`Said`), which are the same run's for people and for
-//! programs,
-//! and says what else is to be done (`Outcome`). So a layer above prints at the end alone, once the line that told how
-//! far the run had come is gone, and replaces the lock after that.
+//! programs, and says what else is to be done (`Outcome`). So a layer above prints at the end alone, once the line that
+//! told how far the run had come is gone, and replaces the lock after that.
 //!
 //! To people a fault is told in a sentence, with the code of `relock` behind it (`faults.rt`); to programs both have
 //! their own keys.

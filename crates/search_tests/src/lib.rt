@@ -1,10 +1,7 @@
 //! Tests of the algebra under the search, of its trail and of the search itself, at both bodies of their sets. The
-//! search
-//! runs with two small guides: one whose axioms all stand in the store from the start, and one whose vertices and
-//! axioms
-//! come as they are asked for. Each function is proved before it runs; all are compiled for the tests alone, so that
-//! they
-//! are proved once.
+//! search runs with two small guides: one whose axioms all stand in the store from the start, and one whose vertices
+//! and axioms come as they are asked for. Each function is proved before it runs; all are compiled for the tests alone,
+//! so that they are proved once.
 #![tactic(auto)]
 
 #[cfg(test)]

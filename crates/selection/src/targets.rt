@@ -39,8 +39,7 @@ pub(crate) fn targets(
 /// The target of a dependency: the place of the last package of the list that serves it, if one does.
 ///
 /// Those of its real name stand side by side, oldest first: log of the list, and as many as are of that name and no
-/// newer
-/// than what the requirement can match, down to the last that it does.
+/// newer than what the requirement can match, down to the last that it does.
 pub fn target(content: &[Package], list: &[usize], dependency: &DependencyParts) -> Option<usize>
     requires content { IsContent (package_views content.now) }
     requires within { All (λ t. t < length content.now) list.now }

@@ -6,11 +6,9 @@
 //! into the written order.
 //!
 //! What is hard is what the builder asks for: that each vertex and state is what its own text reads as. So it is for
-//! all
-//! names, versions and numbers of dependencies of a manifest and a loaded index (`parts_are_valid` of `catalogue`),
-//! which
-//! `refusal` asks for. Each vertex that is spoken of is spelt once for all steps (`spaces.rt`), in the order of their
-//! texts (`listing.rt`), in which terms stand.
+//! all names, versions and numbers of dependencies of a manifest and a loaded index (`parts_are_valid` of `catalogue`),
+//! which `refusal` asks for. Each vertex that is spoken of is spelt once for all steps (`spaces.rt`), in the order of
+//! their texts (`listing.rt`), in which terms stand.
 //!
 //! A layer above may rely on this: the derivation is accepted, by the same definition as the checker's, and has no more
 //! combinations and axioms than the store.

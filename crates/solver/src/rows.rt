@@ -2,10 +2,8 @@
 //!
 //! A search leaves a store of entries over numbers, each with its chain; a derivation has steps over vertices and
 //! states, which somebody checks who knows no numbers. An entry is unrolled first (`unrolling.rt`), into a row of
-//! axioms
-//! and combinations. The vertex of a combination has to have a number, which it has as one at which the first of the
-//! two
-//! entries has a term.
+//! axioms and combinations. The vertex of a combination has to have a number, which it has as one at which the first of
+//! the two entries has a term.
 //!
 //! A layer above may rely on this: a row, each of it as the step that it is decoded to, is an accepted derivation, if
 //! its last one has no term and the axioms of the store are instances.

@@ -1,8 +1,6 @@
 //! `worked_cases FOLDER`: plays the cases of a folder through runs of `relock` and of `cargo-relock`, and searches
-//! whose
-//! steps are counted, and says which commands end otherwise than told. One program plays all, since each has to load
-//! all
-//! that stands below it.
+//! whose steps are counted, and says which commands end otherwise than told. One program plays all, since each has to
+//! load all that stands below it.
 //!
 //! What a case is, and what its commands may be, is told in `cases.rt`.
 #![tactic(auto)]

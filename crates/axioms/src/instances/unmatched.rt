@@ -41,8 +41,7 @@ pub(crate) fn left_term<'a>(
 }
 
 /// `absent`, and the versions of the class that aren't matched: those that are kept, or else they are found, and kept
-/// if
-/// they are few.
+/// if they are few.
 fn left_of<'a>(
     alloc: Global,
     kept: &mut Kept<'a>,

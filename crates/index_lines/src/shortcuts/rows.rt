@@ -4,8 +4,7 @@
 //! object is cut into its members with no look into those that the line before has too, and what these say is kept, as
 //! with dependencies (`items.rt`). Each other one seems to end at the first `]`. Such a cut may be wrong, as a text may
 //! have a bracket: then what was cut off is no feature, and the features are read together. So are those that don't
-//! rise
-//! by their names, for of a name that comes twice the last one counts.
+//! rise by their names, for of a name that comes twice the last one counts.
 
 ghost use Rattle.std.specs.Prelude.{◌≡◌, ◌≤◌, ◌++◌, [], IfOk, IfSome, codes, length, true};
 ghost use Rattle.features.specs.inner.Tables.{rows_of};

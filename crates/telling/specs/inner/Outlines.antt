@@ -106,8 +106,7 @@ abbrev pub too_many : Bool → ℕ
 too_many plain = if plain then 3 else 6
 
 -- whether a step with these premises has no sentence, and its premises stand for it where it is combined: it restates
--- its
--- one premise, or is combined once and has no more than two, or five where it isn't plain
+-- its one premise, or is combined once and has no more than two, or five where it isn't plain
 abbrev pub is_merged : Bool → Uses → List Premise → Bool
 is_merged plain Never rs = true
 is_merged plain Once rs = nat_lt (length rs) (too_many plain)
@@ -181,8 +180,7 @@ Follows notes steps told rs n = FollowsBy notes steps told rs n (references_at s
 
 -- The sentences tell the derivation: each step once and those before others first, by sentences that stand before; each
 -- follows from its premises, and one of them is all the premise of the last step. So all is told that the last step
--- rests
--- on, down to the facts.
+-- rests on, down to the facts.
 pub record IsOutline (notes : List Note) (steps : List Step) (told : Sentences) : Type 0 where
   pub order : AllPairs (λ a b. a.0 < b.0) told
   pub back : (i p : ℕ) (s : ℕ × List Premise) → slice_get told i ≡ Some s → Contains s.1 (Told p) → p < i
