@@ -3,9 +3,8 @@ use Rattle.std.proofs.Common.{◌≡◌, ℕ, suc, Bool, true, false, cond, ◌|
 use Rattle.std.proofs.Common.{None, ◌<◌, ◌+◌, get_or, drop, Bor, flat_map, option_map, is_some, refl, sym, ap, ◌∙◌}
 use Rattle.std.proofs.Common.{subst}
 use Rattle.std.proofs.Common.{true≢false}
-use Rattle.std.specs.HashMap.{HashMap, IsEmpty, IsUnchanged, Updates, get}
+use Rattle.std.specs.HashMap.{HashMap, Updates, get}
 use Rattle.std.specs.List.{AllByRecursion, IsDistinct, list_any, position}
-use Rattle.std.specs.Map.{lookup}
 use Rattle.std.specs.Slice.{IsItemAt}
 use Rattle.std.proofs.lemmas.List.{drop_more}
 use Rattle.std.proofs.lemmas.List.Elements.{All-append}
@@ -76,10 +75,6 @@ differs a b h = by (same_text b a) refl
     by true e = absurd (true≢false (sym (subst (λ t. same_text a t ≡ true) (sym (text-same b a e)) (text-refl a)) ∙ h))
     by false e = refl
 
-distinct-none : IsDistinct same_text []
-unfolding IsDistinct
-distinct-none = tt
-
 distinct-snoc : (names : List (List ℕ)) (name : List ℕ) → IsDistinct same_text names
     → list_any (same_text name) names ≡ false → IsDistinct same_text (names ++ name ∷ [])
 unfolding IsDistinct
@@ -94,15 +89,6 @@ distinct-snoc (n ∷ ns) name d h =
     others (m ∷ ms) all last = (all.0, others ms all.1 last)
 
 module _ {S : Type 0} where
-  pub no_places : (m : HashMap (List ℕ) ℕ S) → IsEmpty m → ArePlaces [] m
-  no_places m e =
-      record { valid = all_none IsPackageName; once = distinct-none; found = λ name. ap (lookup (same_text name)) e }
-
-  pub same_places : (names : List (List ℕ)) (m n : HashMap (List ℕ) ℕ S) → IsUnchanged m n
-      → ArePlaces names m → ArePlaces names n
-  same_places names m n e are =
-      record { valid = are.valid; once = are.once; found = λ name. ap (lookup (same_text name)) e ∙ are.found name }
-
   -- one more name goes last
   pub more_places : (names : List (List ℕ)) (name : List ℕ) (m n : HashMap (List ℕ) ℕ S) → ArePlaces names m
       → IsPackageName name → list_any (same_text name) names ≡ false

@@ -1,5 +1,5 @@
 -- The states of a vertex, read from a manifest and a loaded index.
-use Rattle.std.proofs.Common.{◌≡◌, ℕ, List, map, filter, true, ◌&&◌, Some, None, slice_get, sym, ap, ◌∙◌}
+use Rattle.std.proofs.Common.{◌≡◌, ℕ, List, map, filter, true, ◌&&◌, Some, slice_get, sym, ap, ◌∙◌}
 use Rattle.std.specs.List.{list_all}
 use Rattle.semver.specs.Identifiers.{parts_of}
 use Rattle.semver.specs.declared.Version.{Version}
@@ -34,9 +34,3 @@ module _ (m : ManifestView) (c : CatalogueView) where
   classes_all_in ss o i d is here =
       ap (λ b. b && list_all (has_state ss) (map in_class (dep_classes (problem_in m c) d))) (sym here)
       ∙ ap (λ x. list_all (has_state ss) (dep_space (problem_in m c) x)) is
-
-  pub nothing_matched : (ss : List State) (o : Owner) (i : ℕ)
-      → None ≡ slice_get (owner_brings (problem_in m c) o).dependencies i → has_state ss absent ≡ true
-      → true ≡ is_full (problem_in m c) (at (dep o i) ss)
-  nothing_matched ss o i is here =
-      ap (λ b. b && true) (sym here) ∙ ap (λ x. list_all (has_state ss) (dep_space (problem_in m c) x)) is

@@ -33,11 +33,6 @@ module _ {E : Type 0} (contents : E → Option (List ℕ)) (fails : Fails E) whe
     ap (λ t. t && b) first.5 ∙ and_assoc first.1 first.2 b,
   )
 
-  -- and nothing else
-  pub tells-nothing : (xs : List (List ℕ)) (old new : E) (a : Bool) → Tells contents fails old xs a new
-      → Tells contents fails old (xs ++ []) a new
-  tells-nothing xs old new a told = rw (append-nil xs) told
-
   -- the text of one more item
   pub tells-more : {X : Type 0} (f : X → List ℕ) (xs : List X) (i : ℕ) (x : X) (old mid new : E) (a b : Bool)
       → i < length xs → x ≡ get_or xs i x

@@ -19,7 +19,7 @@ use Rattle.vertices.specs.inner.RefViews.{state_ref_view, state_ref_views}
 use Rattle.vertices.specs.Texts.{vertex_text, IsReadState}
 use Rattle.vertices.specs.declared.state.StateRef.{StateRef}
 use Rattle.vertices.proofs.OrderLaws.{state_total}
-use Rattle.derivations.specs.inner.Derivations.{IsDerivation, IsTerm, AreStepsFrom}
+use Rattle.derivations.specs.inner.Derivations.{IsTerm, AreStepsFrom}
 use Rattle.derivations.specs.inner.Earlier.{IsReading, AreTermsBefore, AreEarlier, HaveTexts, AreWritten, term_from}
 use Rattle.derivations.specs.Lines.{Line, vertex_in_line}
 use Rattle.derivations.specs.Steps.{Written, text_of, two_of, states_in, states_of, step_by, term_of}
@@ -41,9 +41,6 @@ use Rattle.derivations.proofs.WriteLaws.{ordered-same}
 -- ---- tables that grow
 
 module _ (s t : TablesView) (g : IsGrown s t) where
-  pub reading-kept : (ss : List Step) → IsReading s ss → IsReading t ss
-  reading-kept ss h = let kept = kept-steps s t g ss h.0 in (kept.0, subst IsDerivation (sym kept.1) h.1)
-
   pub before-kept : (ts : List Term) → AreTermsBefore s ts → AreTermsBefore t ts
   before-kept ts h = let kept =
       kept-terms s t g ts h.0 in (kept.0, subst (λ xs. AllByRecursion IsTerm xs) (sym kept.1) h.1)

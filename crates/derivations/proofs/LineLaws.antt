@@ -1,32 +1,19 @@
 -- A line that is read is one more step, or the fault of all lines so far.
-use Rattle.std.proofs.Common.{◌≡◌, ℕ, List, [], ◌∷◌, ◌++◌, length, true, false, nat_lt, Ok, Err, refl, sym, ap, subst}
+use Rattle.std.proofs.Common.{◌≡◌, ℕ, List, [], ◌∷◌, ◌++◌, length, true, false, nat_lt, Ok, refl, sym, ap, subst}
 use Rattle.std.proofs.lemmas.List.{length-map}
-use Rattle.model.specs.Outcome.{Faults}
 use Rattle.derivations.specs.inner.Derivations.{IsDerivation}
 use Rattle.derivations.specs.inner.Earlier.{IsReading}
-use Rattle.derivations.specs.Files.{wants_memory, fault_at, most_steps, with_line}
+use Rattle.derivations.specs.Files.{most_steps, with_line}
 use Rattle.trees.specs.Trees.{is_blank}
-use Rattle.derivations.specs.Lines.{line_wants_memory}
 use Rattle.derivations.specs.Steps.{step_of_line}
 use Rattle.derivations.specs.inner.Tables.{TablesView, IsStepOf, IsGrown, step_at, steps_at}
-use Rattle.derivations.specs.declared.fault.DerivationFault.TheVariants.{TooMany}
 use Rattle.derivations.specs.declared.fault.LineFault.{LineFault}
-use Rattle.derivations.specs.declared.fault.LineFault.TheVariants.{OutOfMemory, NotALine, Forward}
 use Rattle.derivations.specs.declared.step.Step.{Step}
 use Rattle.derivations.proofs.ReadLaws.{line-is, one-after}
 use Rattle.derivations.proofs.TableLaws.{more-steps}
 
 module _ (s : TablesView) (ss : List Step) (line : List ℕ) (n : ℕ) (text : is_blank line ≡ false) where
-  pub not-read : (e : LineFault) → Faults (line_wants_memory e) e (step_of_line (length ss) line)
-      → Faults (wants_memory (fault_at n e)) (fault_at n e) (with_line n line (steps_at s ss))
-  not-read OutOfMemory h = tt
-  not-read NotALine h = rw (text, length-map ss (step_at s), h) refl
-  not-read Forward h = rw (text, length-map ss (step_at s), h) refl
-
   module _ (t : TablesView) (x : Step) (is : step_of_line (length ss) line ≡ Ok (step_at t x)) where
-    pub too-many : nat_lt (length ss) most_steps ≡ false → with_line n line (steps_at s ss) ≡ Err (TooMany n)
-    too-many full = rw (text, length-map ss (step_at s), is, length-map ss (step_at s), full) refl
-
     pub one-read : IsGrown s t → IsReading s ss → IsStepOf t x → nat_lt (length ss) most_steps ≡ true
         → IsReading t (ss ++ x ∷ []) × (with_line n line (steps_at s ss) ≡ Ok (steps_at t (ss ++ x ∷ [])))
     one-read g h in_t room =

@@ -6,7 +6,7 @@ use Rattle.std.specs.Prelude.{option_and_then, option_map, unwrap_or}
 use Rattle.std.specs.List.{AllPairs, flat_map}
 use Rattle.std.proofs.lemmas.List.{append_assoc, map-append, append-nil}
 use Rattle.std.proofs.lemmas.List.Kept.{AllPairs-cons}
-use Rattle.std.proofs.lemmas.Option.{none-some, same_Some, slice_get_past, slice_get_within}
+use Rattle.std.proofs.lemmas.Option.{none-some, same_Some, slice_get_past}
 use Rattle.model.specs.Content.{Problem}
 use Rattle.model.specs.Order.{IsCatalogue}
 use Rattle.model.specs.Vertices.{State, Vertex, absent, root, space}
@@ -253,21 +253,6 @@ module _ (q : Problem) where
       within v (r ∷ ss) zero = let f : nat_lt 0 (suc (length ss)) ≡ true = grind arith in f
       within v (r ∷ ss) (suc s) = let f : nat_lt (suc s) (suc (length ss)) ≡ nat_lt s (length ss) =
           grind arith in f ∙ within v ss s
-
-  pub pair_parts : (vs : Numbering) (n s : ℕ) → is_some (pair_at (record { problem = q; vertices = vs }) n s) ≡ true
-      → (v : Vertex) × (slice_get vs n ≡ Some v) × (s < length (space q v))
-  pair_parts vs n s h = by (slice_get vs n) refl h
-    where
-      state : (v : Vertex) (o : Option State) → slice_get (space q v) s ≡ o
-          → is_some (option_map (beside v) o) ≡ true → s < length (space q v)
-      state v None e h = let x : false ≡ true = h in cc
-      state v (Some r) e h = slice_get_within (space q v) s r e
-
-      by : (o : Option Vertex) → slice_get vs n ≡ o
-          → is_some (option_and_then (λ v. option_map (beside v) (slice_get (space q v) s)) o) ≡ true
-          → (v : Vertex) × (slice_get vs n ≡ Some v) × (s < length (space q v))
-      by None e h = let x : false ≡ true = h in cc
-      by (Some v) e h = (v, e, state v (slice_get (space q v) s) refl h)
 
   pub none_of : (o : Option Pair) → is_some o ≡ false → o ≡ None
   none_of None h = refl

@@ -32,7 +32,7 @@ use Rattle.guiding.specs.inner.Turning.{IsAdding}
 use Rattle.guiding.specs.inner.Following as following
 use Rattle.guiding.proofs.Guides.{lone_one, spaces_wider}
 use Rattle.guiding.proofs.Seen.{seen_wider}
-use Rattle.guiding.specs.inner.Guides.{AreAll, AreFirst, AreStored, CanAsk, EncodedView, GoesOn, IsAskedFor, IsAsking}
+use Rattle.guiding.specs.inner.Guides.{AreAll, AreFirst, AreStored, CanAsk, EncodedView, IsAskedFor, IsAsking}
 use Rattle.guiding.specs.inner.Guides.{IsOfInstance}
 use Rattle.guiding.specs.inner.Guides.{IsPut, as_entry}
 use Rattle.guiding.specs.inner.Guides.{asked_at, asked_of, on_trail, late_with, left_with, with_given}
@@ -42,7 +42,7 @@ use Rattle.guiding.proofs.FirstTerms.{named_only}
 use Rattle.guiding.specs.inner.Going.{added_grown, added_on, says_on}
 use Rattle.guiding.proofs.Marks.{lengths_at, marked_either, marked_lengths, marked_more, marked_now}
 use Rattle.guiding.proofs.Marks.{wide_either, wide_has, wide_lengths}
-use Rattle.guiding.proofs.OnTrail.{asked_is, asked_stays, on_trail_at, on_trail_most, late_comes, there_at}
+use Rattle.guiding.proofs.OnTrail.{asked_is, asked_stays, on_trail_at, late_comes, there_at}
 use Rattle.guiding.proofs.Remaining.{open_le, open_lt}
 
 -- ---- what is given, at its places
@@ -316,15 +316,6 @@ module _ {v i : ℕ} {old new : EncodedView} {t wide : TrailView} {es more : Lis
   asked_seen seen = subst (λ n. IsSeen n (asked_of new.asked) wide) (sym a.seen_is)
       (seen_wider old.seen (asked_of old.asked) (asked_of new.asked) a.came t wide is.trail.sound a.wider grows lone
       seen)
-
-  pub asked_goes : GoesOn old new
-  asked_goes = record {
-    problem = a.same;
-    grown = a.grown;
-    whole = λ h. (let w = a.whole in let e =
-        on_trail_most old.problem new.vertices new.asked a.spaced in omega (arith, w, e));
-    follows_is = a.follows_is;
-  }
 
   pub asked_given : following.AreGiven (IsOfInstance old.problem old.vertices) es
       → following.AreGiven (IsOfInstance new.problem new.vertices) more

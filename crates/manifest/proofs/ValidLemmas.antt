@@ -68,11 +68,6 @@ module _ {A : Type 0} where
   wanted-has P p None h = tt
   wanted-has P p (Some x) h = h
 
-  absent-has : (P : A → Type 0) (absent : A) (read : Data → Shaped A) (o : Option Data) → P absent
-      → IfSome o (λ d. IfOk (read d) P) → IfOk (or_absent absent read o) P
-  absent-has P absent read None h g = h
-  absent-has P absent read (Some d) h g = g
-
 -- ---- names
 
 package-named : (p : Part) (text : List ℕ) → IfOk (package_name_of p text) IsPackageName
