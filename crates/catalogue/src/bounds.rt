@@ -2,7 +2,6 @@
 
 ghost use Rattle.std.specs.Prelude.{◌≡◌};
 ghost use Rattle.std.specs.List.{list_any};
-ghost use Rattle.std.specs.Ordering.{is_gt, is_lt};
 ghost use Rattle.features.specs.Views.{requirement_view};
 ghost use Rattle.semver.specs.Identifiers.{comparator_view, parts_of};
 ghost use Rattle.catalogue.specs.inner.Bounds.{has_lower, has_upper, is_above, is_below, is_beyond, is_past_zero};

@@ -4,7 +4,7 @@ ghost use Rattle.std.specs.Prelude.{◌≡◌, ◌<◌, ◌+◌, Bool, true, fal
 ghost use Rattle.std.specs.Prelude.{slice_get, slice_set, IfOk, OnOk, Some, option_map};
 ghost use Rattle.std.specs.List.{All, find};
 ghost use Rattle.semver.specs.Identifiers.{parts_of};
-ghost use Rattle.lockfile.specs.inner.Views.{package_view, package_views};
+ghost use Rattle.lockfile.specs.inner.Views.{package_views};
 ghost use Rattle.model.specs.Content.{Content, list_if, passes};
 ghost use Rattle.model.specs.Content as model;
 ghost use Rattle.model.specs.Order.{IsContent};

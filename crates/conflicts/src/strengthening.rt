@@ -15,7 +15,6 @@ ghost use Rattle.propagation.specs.Trails.{space_of, trail_view};
 ghost use Rattle.std.specs.Bool.{OnTrue};
 ghost use Rattle.std.specs.Prelude.{◌≡◌, ◌+◌, ◌-◌, ◌<◌, ◌≤◌, IfOk, IfSome, List, Some, length, option_map};
 ghost use Rattle.terms.specs.Terms.{terms_view};
-ghost use Rattle.version_sets.specs.Sets.{Members};
 
 use crate::keeping::{has_room, keep};
 use crate::lessons::{Back, back_of};

@@ -5,7 +5,7 @@ ghost use Rattle.model.specs.Selection.{here, enabled};
 ghost use Rattle.facts.specs.inner.Chains.{has, AreBelow};
 ghost use Rattle.facts.specs.inner.Answers.{AreGivenBy};
 ghost use Rattle.facts.specs.inner.Graphs.{node_views, flag_at, flag_in, IsFactOf, LacksFeature, IsGraph};
-ghost use Rattle.facts.specs.inner.FactNumbers.{link_views, numbers_view, numbers_views};
+ghost use Rattle.facts.specs.inner.FactNumbers.{link_views, numbers_views};
 ghost use Rattle.facts.specs.inner.RuleLists.{here_flags, lacks_flags, enabled_flags, link_flags};
 
 use crate::closing::close;

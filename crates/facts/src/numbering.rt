@@ -1,6 +1,6 @@
 //! Facts get their numbers: each package's one after another.
 
-ghost use Rattle.std.specs.Prelude.{◌≡◌, ◌++◌, ℕ, List, Some, length, map, OnOk, IfOk};
+ghost use Rattle.std.specs.Prelude.{◌≡◌, ◌++◌, ℕ, List, Some, length, OnOk, IfOk};
 ghost use Rattle.model.specs.Order.{text_cmp};
 ghost use Rattle.features.specs.Views.{dependency_views, brings_view};
 ghost use Rattle.facts.specs.inner.Graphs.{node_view, node_views, target_if};

@@ -10,7 +10,7 @@
 //! code.
 
 ghost use Rattle.std.specs.Prelude.{◌≡◌, ℕ, Bool, List};
-ghost use Rattle.model.specs.Content.{Candidate, Content, Problem};
+ghost use Rattle.model.specs.Content.{Content, Problem};
 ghost use Rattle.model.specs.inner.ContentOf.{AreKept, Kept};
 ghost use Rattle.model.specs.inner.Search.{IsUnbroken, LeadsTo};
 ghost use Rattle.model.specs.Selection.{IsValidSelection};

@@ -1,16 +1,14 @@
 //! The rules of features, over the numbers of facts.
 
-ghost use Rattle.std.specs.Prelude.{◌≡◌, ◌++◌, ◌||◌, ◌∷◌, ◌≤◌, [], true, false, not, OnOk, IfOk, length, option_map};
-ghost use Rattle.std.specs.List.{flat_map};
+ghost use Rattle.std.specs.Prelude.{◌≡◌, ◌++◌, ◌||◌, ◌∷◌, ◌≤◌, [], true, false, OnOk, IfOk, length, option_map};
 ghost use Rattle.std.specs.List.Sorted.{IsPartitionPoint};
 ghost use Rattle.std.specs.Ordering.{is_lt, is_le};
 ghost use Rattle.model.specs.Order.{text_cmp};
 ghost use Rattle.features.specs.inner.Places.{place_of};
-ghost use Rattle.features.specs.Views.{dependency_view};
 ghost use Rattle.features.specs.EntryViews.{entry_view, entry_views};
 ghost use Rattle.facts.specs.inner.ByName.{AreByName, name_of};
 ghost use Rattle.facts.specs.inner.FactNumbers.{link_view, link_views, numbers_view, numbers_views};
-ghost use Rattle.facts.specs.inner.RuleLists.{one, both, number_on, package_at, ask, ask_features, arrive, need};
+ghost use Rattle.facts.specs.inner.RuleLists.{one, number_on, package_at, ask, ask_features, arrive, need};
 ghost use Rattle.facts.specs.inner.RuleLists.{is_needed};
 ghost use Rattle.facts.specs.inner.RuleLists.{link_rules, enable_all, ask_all, ask_enabled, entry_rules, root_rules};
 ghost use Rattle.facts.specs.inner.RuleLists.{root_entries, root_table, entries_rules, features_rules, table_rules};

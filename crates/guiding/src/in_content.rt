@@ -12,7 +12,7 @@ ghost use Rattle.model.specs.Vertices.{same_class};
 ghost use Rattle.numbering.specs.inner.KnownProblem.{problem};
 ghost use Rattle.vertices.specs.inner.RefViews.{owner_ref_view};
 ghost use Rattle.model.specs.Order.{IsContent};
-ghost use Rattle.guiding.specs.inner.Found.{before_by, is_before, is_locked, is_owner, is_sourceless, led_to};
+ghost use Rattle.guiding.specs.inner.Found.{is_before, is_locked, is_owner, is_sourceless, led_to};
 
 use classes::{Class, same_class};
 use features::{DependencyParts, PackageName};

@@ -11,7 +11,7 @@ ghost use Rattle.features.specs.Views.{text_views};
 ghost use Rattle.classes.specs.Classes.{rust_version_view};
 ghost use Rattle.index_lines.specs.inner.ShapeViews.{feature_views, part_view, line_dependency_view};
 ghost use Rattle.index_lines.specs.inner.ShapeViews.{line_dependency_views};
-ghost use Rattle.index_lines.specs.inner.ShapeViews.{line_values_view, shape_view, values_view};
+ghost use Rattle.index_lines.specs.inner.ShapeViews.{shape_view, values_view};
 ghost use Rattle.trees.specs.Trees.{left_items, tree_view, entries_view, listed_view};
 
 use crate::fault::{LineFault, SkipReason};

@@ -1,7 +1,7 @@
 //! What texts of a line are, versions and requirements, and texts that outlive their line: what the shortcuts need, and
 //! a line that is read as a whole.
 
-ghost use Rattle.std.specs.Prelude.{◌≡◌, ◌≢◌, ◌⊎◌, IfOk, IsTrue, map};
+ghost use Rattle.std.specs.Prelude.{◌≡◌, ◌≢◌, ◌⊎◌, IfOk, map};
 ghost use Rattle.std.specs.Cmp.Lexicographic.{pointwise};
 ghost use Rattle.std.specs.List.{list_all, zip};
 ghost use Rattle.semver.specs.Grammar.{IsValid};

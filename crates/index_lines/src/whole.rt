@@ -2,7 +2,6 @@
 
 ghost use Rattle.std.specs.Prelude.{◌≡◌};
 ghost use Rattle.std.specs.List.{list_all};
-ghost use Rattle.semver.specs.Identifiers.{parts_of};
 ghost use Rattle.model.specs.Outcome.{Gives};
 ghost use Rattle.features.specs.Views.{dependency_views};
 ghost use Rattle.index_lines.specs.Shapes.{wants_memory};

@@ -1,15 +1,12 @@
 //! The features that a line writes, and the table that they make.
 
 ghost use Rattle.std.specs.Prelude.{◌≡◌, [], IfOk, Ok};
-ghost use Rattle.std.specs.Option.{ok_or};
 ghost use Rattle.std.specs.Ordering.{is_lt};
 ghost use Rattle.model.specs.Order.{text_cmp};
 ghost use Rattle.model.specs.Outcome.{Gives};
 ghost use Rattle.model.specs.Tables.{table_of};
-ghost use Rattle.features.specs.Names.{entry_of};
 ghost use Rattle.features.specs.EntryViews.{entry_view, entry_views};
-ghost use Rattle.features.specs.inner.Tables.{AreRising, built, dep_name_view, dep_names_view, rows_of};
-ghost use Rattle.features.specs.inner.Tables.{table_wants_memory};
+ghost use Rattle.features.specs.inner.Tables.{AreRising, dep_name_view, dep_names_view, rows_of};
 ghost use Rattle.index_lines.specs.inner.ByParts.{table_alone};
 ghost use Rattle.index_lines.specs.Shapes.{wants_memory};
 ghost use Rattle.features.specs.Views.{text_views};

@@ -2,7 +2,6 @@
 
 ghost use Rattle.std.specs.Prelude.{◌≡◌, IfOk, map};
 ghost use Rattle.semver.specs.Identifiers.{parts_of};
-ghost use Rattle.model.specs.Order.{precedence};
 ghost use Rattle.index_reader.specs.Files.{has_version, with_skip, with_record, with_found, no_lines, file_view};
 ghost use Rattle.index_reader.specs.inner.BareVersions.{bare, WithoutBuild, Agrees};
 ghost use Rattle.index_lines.specs.Views.{record_view};

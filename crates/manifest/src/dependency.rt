@@ -1,13 +1,13 @@
 //! The dependencies that a manifest writes, before their requirements are read.
 
-ghost use Rattle.std.specs.Prelude.{◌≡◌, ◌++◌, [], codes, option_map, map};
+ghost use Rattle.std.specs.Prelude.{◌≡◌, ◌++◌, [], codes, option_map};
 ghost use Rattle.toml.specs.Data.{get_member};
 ghost use Rattle.toml.specs.View.{view, table_view, array_view};
 ghost use Rattle.model.specs.Outcome.{Gives};
 ghost use Rattle.manifest.specs.Faults.{wants_memory};
 ghost use Rattle.manifest.specs.Manifests.{is_from};
 ghost use Rattle.manifest.specs.Values.{or_absent};
-ghost use Rattle.manifest.specs.Dependencies.{bare, registry, unsupported_in, source_of, real_name_of, named_feature};
+ghost use Rattle.manifest.specs.Dependencies.{bare, registry, unsupported_in, source_of, real_name_of};
 ghost use Rattle.manifest.specs.Dependencies.{may_be_optional, feature_names, feature_list, default_features_in};
 ghost use Rattle.manifest.specs.Dependencies.{dependency_in};
 ghost use Rattle.manifest.specs.Dependencies.{described, dependency_of, dependencies_in};

@@ -1,6 +1,6 @@
 //! Values and keys of TOML tables.
 
-ghost use Rattle.std.specs.Prelude.{◌≡◌, option_map, Some, None, codes};
+ghost use Rattle.std.specs.Prelude.{◌≡◌, option_map, Some, None};
 ghost use Rattle.toml.specs.Data.{as_str, as_bool, as_table, as_array, get_member};
 ghost use Rattle.toml.specs.View.{view, table_view, array_view};
 ghost use Rattle.model.specs.Outcome.{Gives};

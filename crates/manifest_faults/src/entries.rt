@@ -1,6 +1,6 @@
 //! What is wrong with entries of features.
 
-ghost use Rattle.std.specs.Prelude.{◌≡◌, IfOk, Some, option_and_then, option_copied, option_map};
+ghost use Rattle.std.specs.Prelude.{◌≡◌, IfOk, Some, option_copied, option_map};
 ghost use Rattle.toml.specs.Data.{as_str};
 ghost use Rattle.toml.specs.View.{table_view, view};
 ghost use Rattle.features.specs.Names.{entry_of};

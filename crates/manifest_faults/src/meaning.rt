@@ -1,7 +1,6 @@
 //! Which fault a part of a manifest has, where something is wrong with it.
 
 ghost use Rattle.std.specs.Prelude.{◌≡◌};
-ghost use Rattle.manifest.specs.Manifests.{same_source};
 ghost use Rattle.manifest_faults.specs.inner.Reasons.{is_at, is_at_either, is_called_by, is_entry_of, is_in, is_meant};
 ghost use Rattle.manifest_faults.specs.inner.Reasons.{is_of_feature, is_of_requirement, is_of_rows, is_of_source};
 ghost use Rattle.manifest_faults.specs.inner.Reasons.{is_shape};

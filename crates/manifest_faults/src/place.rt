@@ -2,7 +2,7 @@
 
 ghost use Rattle.std.specs.Prelude.{◌≡◌, option_copied, option_map};
 ghost use Rattle.toml.specs.View.{table_view, view};
-ghost use Rattle.manifest_faults.specs.inner.Places.{below, numbered, section_value, named_value, value_at};
+ghost use Rattle.manifest_faults.specs.inner.Places.{below, section_value, named_value, value_at};
 ghost use Rattle.manifest_faults.specs.inner.Places.{underscored};
 ghost use Rattle.manifest_faults.specs.inner.Places.{twin_at};
 

@@ -1,7 +1,6 @@
 //! The fault that is sought, and whether a part of the manifest has it.
 
 ghost use Rattle.std.specs.Prelude.{◌≡◌, IfOk, option_copied, option_map};
-ghost use Rattle.toml.specs.Data.{as_table};
 ghost use Rattle.toml.specs.View.{table_view, view};
 ghost use Rattle.manifest_faults.specs.inner.Finding.{IsFound};
 ghost use Rattle.manifest_faults.specs.inner.Places.{named_value, value_at};

@@ -1,6 +1,6 @@
 //! The instances that are added once a vertex has a state.
 
-ghost use Rattle.std.specs.Prelude.{◌≡◌, ◌<◌, ◌++◌, ◌∷◌, [], true, Contains, List, Some, IfOk, OnOk, length, map};
+ghost use Rattle.std.specs.Prelude.{◌≡◌, ◌<◌, ◌++◌, ◌∷◌, [], true, Contains, List, Some, IfOk, OnOk, length};
 ghost use Rattle.std.specs.Prelude.{slice_get};
 ghost use Rattle.std.specs.List.{AllByRecursion};
 ghost use Rattle.model.specs.Axioms.{IsVertex};

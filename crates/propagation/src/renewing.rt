@@ -10,7 +10,7 @@
 //! stays true.
 
 ghost use Rattle.incompatibilities.specs.Incompatibilities.{states_at};
-ghost use Rattle.incompatibilities.specs.Stores.{entries_view, ids_at, terms_of};
+ghost use Rattle.incompatibilities.specs.Stores.{entries_view, ids_at};
 ghost use Rattle.propagation.specs.Promises.{IsFront, IsTrail};
 ghost use Rattle.propagation.specs.inner.Parts.{IsRenewed};
 ghost use Rattle.propagation.specs.Satisfaction.{RuledOut};

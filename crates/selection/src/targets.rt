@@ -7,7 +7,7 @@ ghost use Rattle.model.specs.Order.{IsContent};
 ghost use Rattle.features.specs.Views.{dependency_view, dependency_views};
 ghost use Rattle.lockfile.specs.inner.Views.{package_view, package_views};
 ghost use Rattle.selection.specs.inner.Graphs.{targets_in};
-ghost use Rattle.selection.specs.inner.Names.{is_newer, is_past, name_cmp, past_by};
+ghost use Rattle.selection.specs.inner.Names.{is_newer, is_past, name_cmp};
 
 use catalogue::is_beyond;
 use classes::is_matched;

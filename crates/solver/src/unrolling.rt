@@ -8,11 +8,11 @@
 //! A layer above may rely on this: each of the row is an axiom of the store or a combination of two earlier ones, the
 //! last one has the entry's terms, and the row has no more axioms and combinations than the store.
 
-ghost use Rattle.incompatibilities.specs.Incompatibilities.{Fit, IsCombination, states_at};
+ghost use Rattle.incompatibilities.specs.Incompatibilities.{Fit, states_at};
 ghost use Rattle.incompatibilities.specs.Stores.{OriginFits, entries_view, entry, terms_of};
 ghost use Rattle.incompatibilities.specs.declared.origin.Origin.TheVariants.{Learned};
-ghost use Rattle.std.specs.Prelude.{◌≡◌, ◌++◌, ◌∷◌, [], ◌<◌, ◌≤◌, IfOk, List, length, slice_index_or};
-ghost use Rattle.terms.specs.Terms.{TermView, terms_view};
+ghost use Rattle.std.specs.Prelude.{◌≡◌, ◌++◌, ◌∷◌, [], ◌<◌, ◌≤◌, IfOk, length};
+ghost use Rattle.terms.specs.Terms.{terms_view};
 ghost use Rattle.solver.specs.inner.Flats.{AreAt, AreFlat, ChainAt, IsLinkPut, IsPut, IsUnrolled, LieSomewhere, PutIf};
 ghost use Rattle.solver.specs.inner.Flats.{flat, flats_view};
 ghost use Rattle.solver.specs.inner.Marks.{IsMarking};

@@ -1,6 +1,6 @@
 //! Which steps of a derivation are told, and by which premises.
 
-ghost use Rattle.std.specs.Prelude.{◌≡◌, ◌++◌, ◌∷◌, [], IfOk, OnOk, length, map, slice_get};
+ghost use Rattle.std.specs.Prelude.{◌≡◌, ◌++◌, ◌∷◌, [], IfOk, OnOk, map, slice_get};
 ghost use Rattle.telling.specs.inner.Outlines as outlines;
 ghost use Rattle.telling.specs.inner.Outlines.{IsOutline, by_fact, fact_of, has_premise, is_plain, is_told_before};
 ghost use Rattle.telling.specs.inner.Outlines.{looked_at};

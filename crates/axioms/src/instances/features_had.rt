@@ -1,6 +1,6 @@
 //! The features that some candidate has.
 
-ghost use Rattle.std.specs.Prelude.{◌≡◌, ◌||◌, IfOk, List, OnOk, map, ℕ};
+ghost use Rattle.std.specs.Prelude.{◌≡◌, ◌||◌, IfOk, List, OnOk, ℕ};
 ghost use Rattle.std.specs.List.{list_any};
 ghost use Rattle.catalogue.specs.Stores.{said_by};
 ghost use Rattle.features.specs.inner.Texts.{HasThose, has_text};

@@ -4,7 +4,7 @@
 //! escaped. Such an item is read straight from its bytes, for a tape of its tokens would take a piece of memory each
 //! time; whatever is spelt in another way is left to the tape.
 
-ghost use Rattle.std.specs.Prelude.{◌≡◌, ◌++◌, IfOk, IfSome, Ok, true, option_map, codes};
+ghost use Rattle.std.specs.Prelude.{◌≡◌, ◌++◌, IfOk, IfSome, Ok, true, option_map};
 ghost use Rattle.serde_json.specs.Data.{string};
 ghost use Rattle.features.specs.Views.{text_views};
 ghost use Rattle.trees.specs.inner.Parts.{is_plain};

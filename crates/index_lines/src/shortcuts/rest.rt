@@ -1,7 +1,6 @@
 //! The rest of a line, behind its features.
 
-ghost use Rattle.std.specs.Prelude.{◌≡◌, ◌∷◌, IfOk, Ok, not, option_map};
-ghost use Rattle.model.specs.Outcome.{Gives};
+ghost use Rattle.std.specs.Prelude.{◌≡◌, ◌∷◌, IfOk, Ok, option_map};
 ghost use Rattle.classes.specs.Classes.{rust_version_view};
 ghost use Rattle.trees.specs.Trees.{tree_view};
 ghost use Rattle.index_lines.specs.inner.ByParts.{lacks, lacks_parts, rest_of, rest_of_bytes};
