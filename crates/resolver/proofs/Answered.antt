@@ -14,9 +14,10 @@ use Rattle.vertices.proofs.Bound.{same-Ok}
 use Rattle.resolver.specs.Inputs.{input_wants_memory, RequestView, AreRead, EndsWith, UnlessMemory, names_of}
 use Rattle.resolver.specs.Inputs.{old_of_bytes, problem_of}
 use Rattle.resolver.specs.Inputs.IsCutShort.{after_loading}
-use Rattle.resolver.specs.Answers.{AreSkips, CanKeep, HoldsOld, IsAnswer, IsKept, IsMisread, IsNew, IsReply}
-use Rattle.resolver.specs.Answers.{IsUnanswered, IsWritten, MeansSelection, RepliesWith, Resolves, with_skips}
+use Rattle.resolver.specs.Answers.{AreSkips, CanKeep, IsAnswer, IsUnanswered, MeansSelection, Resolves}
 use Rattle.resolver.specs.Answers.IsAnswer.{kept_lock, new_lock, no_lock}
+use Rattle.resolver.specs.inner.Replies.{HoldsOld, IsKept, IsMisread, IsNew, IsReply, IsWritten, RepliesWith}
+use Rattle.resolver.specs.inner.Replies.{with_skips}
 use Rattle.resolver.specs.inner.Same.{same_content}
 use Rattle.resolver.specs.declared.inputs.Inputs.{Inputs}
 use Rattle.resolver.specs.declared.fault.Fault.{Fault}

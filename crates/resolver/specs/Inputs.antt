@@ -84,6 +84,8 @@ of_derivation (derivation.NotALine line) = Proof (derivation.NotALine line)
 of_derivation (derivation.Forward line) = Proof (derivation.Forward line)
 of_derivation (derivation.TooMany line) = Proof (derivation.TooMany line)
 
+-- ---- What is read.
+
 -- what a call is given, but for the folder
 pub record RequestView : Type 0 where
   pub manifest : List ℕ

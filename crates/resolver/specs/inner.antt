@@ -1,2 +1,3 @@
+pub mod Replies
 pub mod Same
 pub mod Returning

@@ -3,7 +3,8 @@
 ghost use Rattle.std.specs.Prelude.{◌≡◌, ◌↔◌, true, map, IfOk, Ok, option_copied};
 ghost use Rattle.index_reader.specs.Files.{skip_view};
 ghost use Rattle.resolver.specs.Inputs.{old_of_bytes};
-ghost use Rattle.resolver.specs.Answers.{HoldsOld, RepliesWith, Resolves, ResolvesKeeping, if_unskipped, with_skips};
+ghost use Rattle.resolver.specs.Answers.{Resolves, ResolvesKeeping, if_unskipped};
+ghost use Rattle.resolver.specs.inner.Replies.{HoldsOld, RepliesWith, with_skips};
 
 use crate::fault::Fault;
 use crate::inputs::{Inputs, Request, read_inputs};

@@ -1,7 +1,7 @@
 //! Writing a new lock.
 
 ghost use Rattle.std.specs.Prelude.{◌≡◌};
-ghost use Rattle.resolver.specs.Answers.{Writes};
+ghost use Rattle.resolver.specs.inner.Replies.{Writes};
 ghost use Rattle.resolver.specs.Inputs.{not_read_back};
 
 use crate::fault::Fault;
