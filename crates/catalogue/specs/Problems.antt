@@ -1,5 +1,5 @@
--- What a selection is held against, in a run for a manifest, and which is preferred (Cargo book, "Dependency
--- Resolution"): the model's problem and its candidates by name.
+-- What a selection is held against, in a run for a manifest, and the order in which candidates are preferred (Cargo
+-- book, "Dependency Resolution"): the model's problem and its candidates by name.
 use Rattle.std.specs.Prelude.{◌≡◌, ℕ, true, List, [], ◌++◌, Contains, Option, Some, None, filter, map, reverse}
 use Rattle.std.specs.List.{All}
 use Rattle.model.specs.Content.{Candidate, Content, Package, Problem}
@@ -9,6 +9,8 @@ use Rattle.catalogue.specs.Runs.{Asked, Calls, IsRun, candidates_in, records_of,
 use Rattle.catalogue.specs.Stores.{Ranked, records, same_rank, CatalogueView, rows_by_name}
 use Rattle.catalogue.specs.declared.candidate.Rank.{Rank}
 use Rattle.catalogue.specs.declared.candidate.Rank.TheVariants.{Locked, Fits, Rest}
+
+-- ---- The problem.
 
 -- the names that were asked for
 abbrev pub names_in : List Asked → List (List ℕ)
@@ -37,6 +39,16 @@ problem_of manifest old source asked = problem_over manifest source (candidates_
 abbrev pub problem_in : ManifestView → CatalogueView → Problem
 problem_in manifest index = problem_over manifest index.source (rows_by_name index)
 
+-- a whole run of the folder for this manifest, with this old lock and this source, gives what a selection is held
+-- against
+pub record IsProblemOfRun {S : Type 0} (calls : Calls S) (before : S) (manifest : ManifestView) (old : Content)
+    (source : List ℕ) (q : Problem) (after : S) : Type 0 where
+  pub asked : List Asked
+  pub run : IsRun old source manifest.brings.dependencies calls before asked after
+  pub is : q ≡ problem_of manifest old source asked
+
+-- ---- Preference.
+
 -- of candidates that stand oldest first, those of a rank, newest first
 abbrev pub of_rank : Rank → List Ranked → List Record
 of_rank rank cs = reverse (records (filter (λ c. same_rank c.1 rank) cs))
@@ -49,13 +61,7 @@ by_rank cs = of_rank Locked cs ++ (of_rank Fits cs ++ of_rank Rest cs)
 abbrev pub preferred_in : CatalogueView → List (List ℕ × List Candidate)
 preferred_in index = map (λ row. (row.0, map as_candidate (by_rank row.1))) index.rows
 
--- a whole run of the folder for this manifest, with this old lock and this source, gives what a selection is held
--- against
-pub record IsProblemOfRun {S : Type 0} (calls : Calls S) (before : S) (manifest : ManifestView) (old : Content)
-    (source : List ℕ) (q : Problem) (after : S) : Type 0 where
-  pub asked : List Asked
-  pub run : IsRun old source manifest.brings.dependencies calls before asked after
-  pub is : q ≡ problem_of manifest old source asked
+-- ---- Over a fixed index.
 
 -- a run over a fixed index, which has these files by the names of their packages
 pub record IsRunOver (files : List ℕ → Option (List ℕ)) (manifest : ManifestView) (old : Content) (source : List ℕ)

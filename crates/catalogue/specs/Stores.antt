@@ -1,5 +1,5 @@
--- What a loaded index holds: for each name that was asked for its candidates, oldest first, each with its rank (Cargo
--- book, "Registry Index").
+-- What a loaded index holds: for each name that was asked for its candidates, oldest first, each with its rank in the
+-- order of preference (Cargo book, "Registry Index").
 use Rattle.std.specs.Prelude.{◌≡◌, ℕ, zero, suc, Bool, true, false, List, [], ◌∷◌, ◌++◌, Option, Some, None, map}
 use Rattle.std.specs.Prelude.{filter, length, slice_get, option_map, ◌≢◌, ◌≤◌, if◌then◌else◌, unwrap_or}
 use Rattle.std.specs.List.{All, AllPairs, zip}
@@ -98,7 +98,7 @@ ranked_of p = (record_of p.0 p.1, p.1.rank)
 abbrev pub ranked_view : List Version → List Candidate → List Ranked
 ranked_view versions cs = map ranked_of (zip versions cs)
 
--- the same of a record beside its version
+-- what the index says of a version, without the version
 pub record Said : Type 0 where
   pub checksum : List ℕ
   pub yanked : Bool
@@ -137,6 +137,7 @@ AreKnown cs = KnowFeatures (records cs)
 abbrev pub BringValid : List Record → Type 0
 BringValid rs = All (λ r. BringsValid r.brings) rs
 
+-- for proofs: that these are propositions
 valid-entry-prop : (e : Entry) → IsProp (IsValidEntry e)
 valid-entry-prop (feature g) = Prim.hlevel props
 valid-entry-prop (dependency d) = Prim.hlevel props
@@ -149,6 +150,8 @@ bring-valid-prop rs = Prim.hlevel (props, valid-entry-prop)
 -- each version is what its text reads as
 abbrev pub AreRead : List Version → Type 0
 AreRead versions = All (λ v. IsValid (parts_of v)) versions
+
+-- ---- The loaded index.
 
 -- a name and its candidates
 abbrev pub Row : Type 0
