@@ -6,10 +6,11 @@ use crate::watch::Watch;
 use features::PackageName;
 use index_reader::{DiskFolder, index_path};
 use outcomes::{
-    Bytes, IndexFolder, Outcome, Paths, Pinned, Question, ReadFault, Said, Wish, has_workspace,
-    manifests_above, no_index, paths_below, precise_in, precise_told, question_in, read_files,
-    resolve_told, skips_told, skips_told_of_all, standing_of, tell_fetched, tell_read, tell_time,
-    told_fault, update_told, verify_told, warn_of_workspace, why_told,
+    Bytes, IndexFolder, Outcome, Paths, Pinned, Pins, Precise, Project, Question, ReadFault, Said,
+    Wish, has_workspace, manifests_above, no_index, paths_below, precise_in, precise_told,
+    question_in, read_files, resolve_told, skips_told, skips_told_of_all, standing_of,
+    tell_fetched, tell_read, tell_time, told_fault, update_told, verify_told, warn_of_workspace,
+    why_told,
 };
 use resolver::Fault;
 use semver::Version;
@@ -42,14 +43,14 @@ fn folder_at<R: Files + AllocGlobal + Clone + Drop>(
 /// the time. Where there is no file of an index, and none was found of those that were looked for, that is told alone.
 fn ended<R: Files + Clock + Eprint + AllocGlobal + Clone + Drop>(
     rt: &R,
-    paths: &Paths<'_>,
-    bytes: &Bytes,
+    project: Project<'_>,
     told: Result<Outcome, Fault>,
     index: &Index<'_, R>,
     watch: Watch,
     said: &mut Said,
 ) -> Result<Outcome, AllocError> {
     let alloc = rt.alloc();
+    let paths = project.paths;
     let seen = index.seen();
     let path = paths.index.as_str();
     if seen.asked > 0 && seen.files == 0 {
@@ -57,7 +58,7 @@ fn ended<R: Files + Clock + Eprint + AllocGlobal + Clone + Drop>(
             return without_index(alloc, path, &lacking, said);
         }
     }
-    let outcome = told_fault(alloc, paths, bytes, told, said)?;
+    let outcome = told_fault(alloc, project, told, said)?;
     if paths.is_fetched {
         // After a no names were looked for that are like others, so that their number says nothing.
         let missing = if outcome.is_yes() {
@@ -77,16 +78,16 @@ fn ended<R: Files + Clock + Eprint + AllocGlobal + Clone + Drop>(
 /// that is told, and where the lock was to be written refused.
 fn checked<'a, R: Files + AllocGlobal>(
     rt: &R,
-    paths: &Paths<'_>,
-    bytes: &Bytes,
+    project: Project<'_>,
     wish: Wish,
     said: &mut Said,
 ) -> Result<Wish, Failure<'a>> {
     let alloc = rt.alloc();
-    if has_workspace(alloc, &bytes.manifest, "")? {
+    let manifest = project.paths.manifest;
+    if has_workspace(alloc, &project.bytes.manifest, "")? {
         return Ok(wish);
     }
-    for above in manifests_above(rt, paths.manifest)? {
+    for above in manifests_above(rt, manifest)? {
         if has_workspace(alloc, &above.bytes, above.below.as_str())? {
             if wish.write {
                 return Err(Failure::Member(above.path));
@@ -94,7 +95,7 @@ fn checked<'a, R: Files + AllocGlobal>(
             let below = above.below.as_str();
             let found = standing_of(alloc, &above.bytes, below)?;
             let path = above.path.as_str();
-            warn_of_workspace(alloc, paths.manifest, path, below, found, said)?;
+            warn_of_workspace(alloc, manifest, path, below, found, said)?;
             return Ok(Wish {
                 is_member: true,
                 ..wish
@@ -183,10 +184,11 @@ pub(crate) fn resolve_at<'a, R: Files + Clock + Eprint + AllocGlobal + Clone + D
     said: &mut Said,
 ) -> Result<Outcome, Failure<'a>> {
     let bytes = read_files(rt, paths, false)?;
-    let wish = checked(rt, paths, &bytes, wish, said)?;
+    let project = Project::of(paths, &bytes);
+    let wish = checked(rt, project, wish, said)?;
     let mut index = index_at(rt, paths, watch)?;
-    let told = resolve_told(rt.alloc(), &mut index, paths, &bytes, wish, said);
-    Ok(ended(rt, paths, &bytes, told, &index, watch, said)?)
+    let told = resolve_told(rt.alloc(), &mut index, project, wish, said);
+    Ok(ended(rt, project, told, &index, watch, said)?)
 }
 
 /// What each of some words asks for, or the first of them that ask for no package.
@@ -217,10 +219,11 @@ pub(crate) fn update_at<'a, R: Files + Clock + Eprint + AllocGlobal + Clone + Dr
         Err(words) => return Err(Failure::NoPackage(String::from_str(rt.alloc(), words)?)),
     };
     let bytes = read_files(rt, paths, false)?;
-    let wish = checked(rt, paths, &bytes, wish, said)?;
+    let project = Project::of(paths, &bytes);
+    let wish = checked(rt, project, wish, said)?;
     let mut index = index_at(rt, paths, watch)?;
-    let told = update_told(rt.alloc(), &mut index, paths, &bytes, &asked, wish, said);
-    Ok(ended(rt, paths, &bytes, told, &index, watch, said)?)
+    let told = update_told(rt.alloc(), &mut index, project, &asked, wish, said);
+    Ok(ended(rt, project, told, &index, watch, said)?)
 }
 
 /// The version that a text is.
@@ -251,41 +254,28 @@ pub(crate) fn precise_at<'a, R: Files + Clock + Eprint + AllocGlobal + Clone + D
     };
     let version = version_of(alloc, version)?;
     let bytes = with_lock(rt, paths)?;
-    let wish = checked(rt, paths, &bytes, wish, said)?;
+    let project = Project::of(paths, &bytes);
+    let wish = checked(rt, project, wish, said)?;
     let mut index = index_at(rt, paths, watch)?;
-    let told = precisely(
-        rt, &mut index, paths, &bytes, words, &question, version, wish, said,
-    );
-    Ok(ended(rt, paths, &bytes, told, &index, watch, said)?)
+    let told = match precise_in(alloc, project, words, &question, version, said) {
+        Ok(Ok((precise, pins))) => precisely(rt, &mut index, project, &precise, pins, wish, said),
+        Ok(Err(outcome)) => Ok(outcome),
+        Err(fault) => Err(fault),
+    };
+    Ok(ended(rt, project, told, &index, watch, said)?)
 }
 
 fn precisely<R: Files + Clock + Eprint + AllocGlobal + Clone + Drop>(
     rt: &R,
     index: &mut Index<'_, R>,
-    paths: &Paths<'_>,
-    bytes: &Bytes,
-    words: &str,
-    question: &Question,
-    version: Version,
+    project: Project<'_>,
+    precise: &Precise,
+    pins: Pins,
     wish: Wish,
     said: &mut Said,
 ) -> Result<Outcome, Fault> {
-    let alloc = rt.alloc();
-    let (precise, pins) = match precise_in(alloc, paths, bytes, words, question, version, said)? {
-        Ok(found) => found,
-        Err(outcome) => return Ok(outcome),
-    };
-    let mut pinned = Pinned::new(folder_at(rt, paths)?, pins);
-    precise_told(
-        alloc,
-        index,
-        &mut pinned,
-        paths,
-        bytes,
-        &precise,
-        wish,
-        said,
-    )
+    let mut pinned = Pinned::new(folder_at(rt, project.paths)?, pins);
+    precise_told(rt.alloc(), index, &mut pinned, project, precise, wish, said)
 }
 
 pub(crate) fn verify_at<'a, R: Files + Clock + Eprint + AllocGlobal + Clone + Drop>(
@@ -295,9 +285,10 @@ pub(crate) fn verify_at<'a, R: Files + Clock + Eprint + AllocGlobal + Clone + Dr
     said: &mut Said,
 ) -> Result<Outcome, Failure<'a>> {
     let bytes = with_lock(rt, paths)?;
+    let project = Project::of(paths, &bytes);
     let mut index = index_at(rt, paths, watch)?;
-    let told = verify_told(rt.alloc(), &mut index, paths, &bytes, said);
-    Ok(ended(rt, paths, &bytes, told, &index, watch, said)?)
+    let told = verify_told(rt.alloc(), &mut index, project, said);
+    Ok(ended(rt, project, told, &index, watch, said)?)
 }
 
 pub(crate) fn why_at<'a, R: Files + Clock + Eprint + AllocGlobal + Clone + Drop>(
@@ -313,18 +304,18 @@ pub(crate) fn why_at<'a, R: Files + Clock + Eprint + AllocGlobal + Clone + Drop>
         return Err(Failure::NoPackage(text));
     };
     let bytes = with_lock(rt, paths)?;
+    let project = Project::of(paths, &bytes);
     let mut index = index_at(rt, paths, watch)?;
     let told = why_told(
         rt.alloc(),
         &mut index,
-        paths,
-        &bytes,
+        project,
         package,
         &question,
         all,
         said,
     );
-    Ok(ended(rt, paths, &bytes, told, &index, watch, said)?)
+    Ok(ended(rt, project, told, &index, watch, said)?)
 }
 
 /// What the files say, with the lock, which has to be there.
@@ -363,12 +354,13 @@ pub(crate) fn skips_at<'a, R: Files + Clock + Eprint + AllocGlobal + Clone + Dro
     said: &mut Said,
 ) -> Result<Outcome, Failure<'a>> {
     let bytes = read_files(rt, paths, false)?;
+    let project = Project::of(paths, &bytes);
     let mut index = index_at(rt, paths, watch)?;
     let told = skips_told(rt.alloc(), &mut index, &bytes, all, said);
     if told.is_ok() {
         tell_all_read(rt.alloc(), paths, &index, said)?;
     }
-    Ok(ended(rt, paths, &bytes, told, &index, watch, said)?)
+    Ok(ended(rt, project, told, &index, watch, said)?)
 }
 
 /// The lines of the whole index, beside no manifest.
@@ -396,5 +388,6 @@ pub(crate) fn skips_at_all<'a, R: Files + Clock + Eprint + AllocGlobal + Clone +
         lock: None,
         source: String::new(alloc),
     };
-    Ok(ended(rt, paths, &nothing, told, &index, watch, said)?)
+    let project = Project::of(paths, &nothing);
+    Ok(ended(rt, project, told, &index, watch, said)?)
 }

@@ -2,8 +2,7 @@
 
 use crate::answers::{Form, inputs_in, lock_in, manifest_misreading_in, misreading_in};
 use crate::outcome::Outcome;
-use crate::paths::Paths;
-use crate::reading::Bytes;
+use crate::reading::Project;
 use crate::said::Said;
 use features::PackageName;
 use index_reader::Folder;
@@ -77,8 +76,7 @@ fn asked_of(source: Unsupported) -> &'static str {
 /// What a command ends with; a fault is told, with what else there is to say of it.
 pub fn told_fault(
     alloc: Global,
-    paths: &Paths<'_>,
-    bytes: &Bytes,
+    project: Project<'_>,
     ended: Result<Outcome, Fault>,
     said: &mut Said,
 ) -> Result<Outcome, AllocError> {
@@ -86,7 +84,7 @@ pub fn told_fault(
         Ok(outcome) => Ok(outcome),
         Err(fault) => {
             said.fault(&fault, Severity::Error)?;
-            tell_more(alloc, paths, bytes, &fault, said)?;
+            tell_more(alloc, project, &fault, said)?;
             Ok(Outcome::failed())
         }
     }
@@ -95,16 +93,15 @@ pub fn told_fault(
 /// Where and why a lock or a manifest doesn't read, or which command says more of a fault.
 fn tell_more(
     alloc: Global,
-    paths: &Paths<'_>,
-    bytes: &Bytes,
+    project: Project<'_>,
     fault: &Fault,
     said: &mut Said,
 ) -> Result<(), AllocError> {
     if is_of_lock(fault) {
-        tell_misreading(alloc, paths, bytes, said)?;
+        tell_misreading(alloc, project, said)?;
         said.note(REPAIR)
     } else if is_of_manifest(fault) {
-        tell_manifest_misreading(alloc, paths, bytes, said)?;
+        tell_manifest_misreading(alloc, project, said)?;
         tell_of_source(fault, said)
     } else if is_of_checksum(fault) {
         said.note(CAUSES)
@@ -124,15 +121,14 @@ fn tell_of_source(fault: &Fault, said: &mut Said) -> Result<(), AllocError> {
 pub(crate) fn tell_checksums<F: Folder>(
     alloc: Global,
     folder: &mut F,
-    paths: &Paths<'_>,
-    bytes: &Bytes,
+    project: Project<'_>,
     name: PackageName,
     version: Version,
     said: &mut Said,
 ) -> Result<Outcome, Fault> {
     let sums = match said.form() {
         Form::People => {
-            let inputs = inputs_in(alloc, bytes)?;
+            let inputs = inputs_in(alloc, project.bytes)?;
             checksums_of(alloc, folder, &inputs, &name, &version)?
         }
         Form::Programs => None,
@@ -140,7 +136,7 @@ pub(crate) fn tell_checksums<F: Folder>(
     let Some(sums) = sums else {
         return Err(Fault::ChecksumChanged(name, version));
     };
-    let lines = checksum_lines(alloc, paths, lock_in(bytes), &name, &version, &sums)?;
+    let lines = checksum_lines(alloc, project, &name, &version, &sums)?;
     said.fault(&Fault::ChecksumChanged(name, version), Severity::Error)?;
     said.below(lines.as_str())?;
     said.note(CAUSES)?;
@@ -150,13 +146,13 @@ pub(crate) fn tell_checksums<F: Folder>(
 /// `Cargo.lock line 23: it is .., in this index it is ..`.
 fn checksum_lines(
     alloc: Global,
-    paths: &Paths<'_>,
-    lock: &[u8],
+    project: Project<'_>,
     name: &PackageName,
     version: &Version,
     sums: &Checksums,
 ) -> Result<String, AllocError> {
-    let path = paths.lock.as_str();
+    let path = project.paths.lock.as_str();
+    let lock = lock_in(project.bytes);
     let Checksums { locked, own } = sums;
     let text = format!(in alloc; "{version}")?;
     match checksum_line(lock, name.as_str(), text.as_str()) {
@@ -182,12 +178,11 @@ fn is_of_lock(fault: &Fault) -> bool {
 /// Tells where and why the lock doesn't read.
 pub(crate) fn tell_misreading(
     alloc: Global,
-    paths: &Paths<'_>,
-    bytes: &Bytes,
+    project: Project<'_>,
     said: &mut Said,
 ) -> Result<(), AllocError> {
-    let path = paths.lock.as_str();
-    let text = misreading_in(alloc, path, lock_in(bytes), said.form())?;
+    let path = project.paths.lock.as_str();
+    let text = misreading_in(alloc, path, lock_in(project.bytes), said.form())?;
     said.below(text.as_str())
 }
 
@@ -207,11 +202,10 @@ fn is_of_manifest(fault: &Fault) -> bool {
 /// Tells where and why the manifest doesn't read.
 fn tell_manifest_misreading(
     alloc: Global,
-    paths: &Paths<'_>,
-    bytes: &Bytes,
+    project: Project<'_>,
     said: &mut Said,
 ) -> Result<(), AllocError> {
-    let path = paths.manifest;
-    let text = manifest_misreading_in(alloc, path, &bytes.manifest, said.form())?;
+    let path = project.paths.manifest;
+    let text = manifest_misreading_in(alloc, path, &project.bytes.manifest, said.form())?;
     said.below(text.as_str())
 }

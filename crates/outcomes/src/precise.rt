@@ -5,10 +5,9 @@
 
 use crate::answers::{Form, NewLock, found_in, inputs_in, new_lock, refusal_in, rest_without};
 use crate::outcome::Outcome;
-use crate::paths::Paths;
 use crate::pinning::Pins;
-use crate::reading::Bytes;
-use crate::resolving::{Wish, locked, new_lock_of, no_lock, preference};
+use crate::reading::{Bytes, Project};
+use crate::resolving::{Task, Wish, locked, no_lock, preference};
 use crate::said::Said;
 use crate::why::{NoWay, Question, no_way};
 use derivations::Derivation;
@@ -35,19 +34,18 @@ pub struct Precise {
 /// A package that is to have a version, and what has to stay; or what the command ends with where no package is meant.
 pub fn precise_in(
     alloc: Global,
-    paths: &Paths<'_>,
-    bytes: &Bytes,
+    project: Project<'_>,
     words: &str,
     question: &Question,
     version: Version,
     said: &mut Said,
 ) -> Result<Result<(Precise, Pins), Outcome>, Fault> {
-    let inputs = inputs_in(alloc, bytes)?;
+    let inputs = inputs_in(alloc, project.bytes)?;
     let why = match (found_in(alloc, &inputs, question)?, &inputs.lock) {
         (Meant::One(wanted), Some(lock)) => {
             let pins = pins_of(alloc, lock, &wanted, &version)?;
             let listers = listers_of(alloc, lock, &wanted)?;
-            let rest = rest_without(alloc, bytes, &wanted)?;
+            let rest = rest_without(alloc, project.bytes, &wanted)?;
             let name = wanted.name;
             let precise = Precise {
                 name,
@@ -60,7 +58,7 @@ pub fn precise_in(
         (Meant::Several, _) => NoWay::Several,
         _ => NoWay::Absent,
     };
-    Ok(Err(no_way(alloc, paths, words, why, said)?))
+    Ok(Err(no_way(alloc, project.paths, words, why, said)?))
 }
 
 /// The version for the package, and for what lists it, and for all others of these names, their own.
@@ -109,15 +107,14 @@ pub fn precise_told<F: Folder, P: Folder>(
     alloc: Global,
     folder: &mut F,
     pinned: &mut P,
-    paths: &Paths<'_>,
-    bytes: &Bytes,
+    project: Project<'_>,
     precise: &Precise,
     wish: Wish,
     said: &mut Said,
 ) -> Result<Outcome, Fault> {
     match reports::lost_version(alloc, folder, &precise.name, &precise.version)? {
         Some(why) => Ok(no_version(alloc, precise, why.as_str(), said)?),
-        None => pinned_told(alloc, folder, pinned, paths, bytes, precise, wish, said),
+        None => pinned_told(alloc, folder, pinned, project, precise, wish, said),
     }
 }
 
@@ -126,22 +123,22 @@ fn pinned_told<F: Folder, P: Folder>(
     alloc: Global,
     folder: &mut F,
     pinned: &mut P,
-    paths: &Paths<'_>,
-    bytes: &Bytes,
+    project: Project<'_>,
     precise: &Precise,
     wish: Wish,
     said: &mut Said,
 ) -> Result<Outcome, Fault> {
-    let prefer = preference(alloc, bytes, wish)?;
-    let answer = new_lock(alloc, pinned, &precise.rest, prefer)?;
+    let task = Task {
+        project,
+        from: &precise.rest,
+        prefer: preference(alloc, project.bytes, wish)?,
+        wish,
+    };
+    let answer = new_lock(alloc, pinned, task.from, task.prefer)?;
     match &*answer {
-        Answer::Lock {
-            bytes: new,
-            kept,
-            skips,
-        } => {
-            let lock = new_lock_of(bytes, new, *kept, prefer, skips.len());
-            taken(alloc, folder, paths, bytes, precise, lock, wish, said)
+        Answer::Lock { bytes, kept, skips } => {
+            let lock = task.new_lock_of(bytes, *kept, skips.len());
+            taken(alloc, folder, task, precise, lock, said)
         }
         Answer::Unsolvable {
             derivation,
@@ -149,7 +146,7 @@ fn pinned_told<F: Folder, P: Folder>(
             ..
         } => {
             let text = text.as_str();
-            refused(alloc, pinned, paths, precise, derivation, text, wish, said)
+            refused(alloc, pinned, task, precise, derivation, text, said)
         }
     }
 }
@@ -158,15 +155,13 @@ fn pinned_told<F: Folder, P: Folder>(
 fn taken<F: Folder>(
     alloc: Global,
     folder: &mut F,
-    paths: &Paths<'_>,
-    bytes: &Bytes,
+    task: Task<'_>,
     precise: &Precise,
     lock: NewLock<'_>,
-    wish: Wish,
     said: &mut Said,
 ) -> Result<Outcome, Fault> {
     if has_one(alloc, lock.bytes, precise)? {
-        locked(alloc, folder, paths, bytes, &precise.rest, lock, wish, said)
+        locked(alloc, folder, task, lock, said)
     } else {
         Ok(unneeded(alloc, precise, said)?)
     }
@@ -197,29 +192,18 @@ fn unneeded(alloc: Global, precise: &Precise, said: &mut Said) -> Result<Outcome
 fn refused<P: Folder>(
     alloc: Global,
     pinned: &mut P,
-    paths: &Paths<'_>,
+    task: Task<'_>,
     precise: &Precise,
     derivation: &Derivation,
     text: &str,
-    wish: Wish,
     said: &mut Said,
 ) -> Result<Outcome, Fault> {
     let (name, version) = (&precise.name, &precise.version);
-    let rest = &precise.rest;
-    let form = said.form();
-    let why = refusal_in(
-        alloc,
-        pinned,
-        paths.manifest,
-        rest,
-        derivation,
-        text,
-        form,
-        wish.all,
-    )?;
+    let (project, form, all) = (task.resolved(), said.form(), task.wish.all);
+    let why = refusal_in(alloc, pinned, project, derivation, text, form, all)?;
     if form == Form::Programs {
         let there = format!(in alloc; " where {name} is {version}")?;
-        return Ok(no_lock(alloc, paths, there.as_str(), why.as_str(), said)?);
+        return Ok(no_lock(alloc, project.paths, there.as_str(), why.as_str(), said)?);
     }
     Ok(tell_refused(alloc, precise, why.as_str(), said)?)
 }

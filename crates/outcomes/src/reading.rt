@@ -23,6 +23,19 @@ pub struct Bytes {
     pub source: String,
 }
 
+/// The files of a run: where they are, and what they hold.
+#[derive(Clone, Copy)]
+pub struct Project<'a> {
+    pub paths: &'a Paths<'a>,
+    pub bytes: &'a Bytes,
+}
+
+impl<'a> Project<'a> {
+    pub fn of(paths: &'a Paths<'a>, bytes: &'a Bytes) -> Project<'a> {
+        Project { paths, bytes }
+    }
+}
+
 /// What the files say, if they are there: the lock may be missing unless it is needed, the index has to be a folder.
 pub fn read_files<'a, R: Files + AllocGlobal>(
     rt: &R,

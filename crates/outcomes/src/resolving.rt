@@ -10,7 +10,7 @@ use crate::answers::{
 use crate::faults::{tell_checksums, tell_misreading};
 use crate::outcome::Outcome;
 use crate::paths::Paths;
-use crate::reading::Bytes;
+use crate::reading::{Bytes, Project};
 use crate::said::Said;
 use crate::verifying::warn_of_refused;
 use crate::why::{Question, no_way};
@@ -37,38 +37,47 @@ pub struct Wish {
     pub is_member: bool,
 }
 
+/// What is resolved, and how.
+#[derive(Clone, Copy)]
+pub(crate) struct Task<'a> {
+    /// The files, from whose lock the changes are told.
+    pub(crate) project: Project<'a>,
+    /// What a new lock comes from: the files, or these without what is unlocked.
+    pub(crate) from: &'a Bytes,
+    pub(crate) prefer: Prefer,
+    pub(crate) wish: Wish,
+}
+
 /// What changes in the lock, or why there is none. With `repair` a lock that can't be read stops nothing.
 pub fn resolve_told<F: Folder>(
     alloc: Global,
     folder: &mut F,
-    paths: &Paths<'_>,
-    bytes: &Bytes,
+    project: Project<'_>,
     wish: Wish,
     said: &mut Said,
 ) -> Result<Outcome, Fault> {
     if wish.repair {
-        if let Some(repaired) = readable_rest(alloc, bytes)? {
-            tell_repair(alloc, paths, bytes, &repaired, said)?;
-            let bytes = &repaired.bytes;
-            return resolved(alloc, folder, paths, bytes, bytes, wish, said);
+        if let Some(repaired) = readable_rest(alloc, project.bytes)? {
+            tell_repair(alloc, project, &repaired, said)?;
+            let project = Project::of(project.paths, &repaired.bytes);
+            return resolved(alloc, folder, project, project.bytes, wish, said);
         }
     }
-    resolved(alloc, folder, paths, bytes, bytes, wish, said)
+    resolved(alloc, folder, project, project.bytes, wish, said)
 }
 
 /// What `update` ends with: the packages that are asked for, or all where none is, lose their lock before.
 pub fn update_told<F: Folder>(
     alloc: Global,
     folder: &mut F,
-    paths: &Paths<'_>,
-    bytes: &Bytes,
+    project: Project<'_>,
     asked: &[(&str, Question)],
     wish: Wish,
     said: &mut Said,
 ) -> Result<Outcome, Fault> {
-    match unlock(alloc, bytes, asked)? {
-        Unlocked::Rest(rest) => resolved(alloc, folder, paths, bytes, &rest, wish, said),
-        Unlocked::NoPackage(words, why) => Ok(no_way(alloc, paths, words, why, said)?),
+    match unlock(alloc, project.bytes, asked)? {
+        Unlocked::Rest(rest) => resolved(alloc, folder, project, &rest, wish, said),
+        Unlocked::NoPackage(words, why) => Ok(no_way(alloc, project.paths, words, why, said)?),
     }
 }
 
@@ -76,19 +85,22 @@ pub fn update_told<F: Folder>(
 fn resolved<F: Folder>(
     alloc: Global,
     folder: &mut F,
-    paths: &Paths<'_>,
-    bytes: &Bytes,
+    project: Project<'_>,
     from: &Bytes,
     wish: Wish,
     said: &mut Said,
 ) -> Result<Outcome, Fault> {
-    let prefer = preference(alloc, bytes, wish)?;
+    let prefer = preference(alloc, project.bytes, wish)?;
+    let task = Task {
+        project,
+        from,
+        prefer,
+        wish,
+    };
     match new_lock(alloc, folder, from, prefer) {
-        Ok(answer) => answered(
-            alloc, folder, paths, bytes, from, &answer, prefer, wish, said,
-        ),
+        Ok(answer) => answered(alloc, folder, task, &answer, said),
         Err(Fault::ChecksumChanged(name, version)) => {
-            tell_checksums(alloc, folder, paths, from, name, version, said)
+            tell_checksums(alloc, folder, task.resolved(), name, version, said)
         }
         Err(fault) => Err(fault),
     }
@@ -98,37 +110,20 @@ fn resolved<F: Folder>(
 fn answered<F: Folder>(
     alloc: Global,
     folder: &mut F,
-    paths: &Paths<'_>,
-    bytes: &Bytes,
-    from: &Bytes,
+    task: Task<'_>,
     answer: &Answer,
-    prefer: Prefer,
-    wish: Wish,
     said: &mut Said,
 ) -> Result<Outcome, Fault> {
     match answer {
-        Answer::Lock {
-            bytes: new,
-            kept,
-            skips,
-        } => {
-            let lock = new_lock_of(bytes, new, *kept, prefer, skips.len());
-            locked(alloc, folder, paths, bytes, from, lock, wish, said)
+        Answer::Lock { bytes, kept, skips } => {
+            let lock = task.new_lock_of(bytes, *kept, skips.len());
+            locked(alloc, folder, task, lock, said)
         }
         Answer::Unsolvable {
             derivation,
             text,
             ..
-        } => unsolvable(
-            alloc,
-            folder,
-            paths,
-            from,
-            derivation,
-            text.as_str(),
-            wish,
-            said,
-        ),
+        } => unsolvable(alloc, folder, task, derivation, text.as_str(), said),
     }
 }
 
@@ -136,39 +131,35 @@ fn answered<F: Folder>(
 fn unsolvable<F: Folder>(
     alloc: Global,
     folder: &mut F,
-    paths: &Paths<'_>,
-    bytes: &Bytes,
+    task: Task<'_>,
     derivation: &Derivation,
     text: &str,
-    wish: Wish,
     said: &mut Said,
 ) -> Result<Outcome, Fault> {
-    let why = refusal_in(
-        alloc,
-        folder,
-        paths.manifest,
-        bytes,
-        derivation,
-        text,
-        said.form(),
-        wish.all,
-    )?;
-    Ok(no_lock(alloc, paths, "", why.as_str(), said)?)
+    let (project, form, all) = (task.resolved(), said.form(), task.wish.all);
+    let why = refusal_in(alloc, folder, project, derivation, text, form, all)?;
+    Ok(no_lock(alloc, project.paths, "", why.as_str(), said)?)
 }
 
-/// A lock that `resolve` gives, beside the old one.
-pub(crate) fn new_lock_of<'a>(
-    old: &Bytes,
-    new: &'a [u8],
-    kept: bool,
-    prefer: Prefer,
-    skipped: usize,
-) -> NewLock<'a> {
-    NewLock {
-        bytes: new,
-        kept: kept || new == lock_in(old),
-        prefer,
-        skipped,
+impl<'a> Task<'a> {
+    /// The files that a new lock comes from.
+    pub(crate) fn resolved(&self) -> Project<'a> {
+        Project::of(self.project.paths, self.from)
+    }
+
+    /// A lock that `resolve` gives, beside the old one.
+    pub(crate) fn new_lock_of<'b>(
+        &self,
+        bytes: &'b [u8],
+        kept: bool,
+        skipped: usize,
+    ) -> NewLock<'b> {
+        NewLock {
+            bytes,
+            kept: kept || bytes == lock_in(self.project.bytes),
+            prefer: self.prefer,
+            skipped,
+        }
     }
 }
 
@@ -185,23 +176,20 @@ pub(crate) fn preference(alloc: Global, bytes: &Bytes, wish: Wish) -> Result<Pre
 pub(crate) fn locked<F: Folder>(
     alloc: Global,
     folder: &mut F,
-    paths: &Paths<'_>,
-    bytes: &Bytes,
-    from: &Bytes,
+    task: Task<'_>,
     lock: NewLock<'_>,
-    wish: Wish,
     said: &mut Said,
 ) -> Result<Outcome, Fault> {
-    if !lock.kept && !wish.repair {
-        let lost = lost_in(alloc, folder, from, lock.bytes)?;
+    if !lock.kept && !task.wish.repair {
+        let lost = lost_in(alloc, folder, task.from, lock.bytes)?;
         if !lost.is_empty() {
             return Ok(tell_lost(alloc, &lost, said)?);
         }
     }
-    if wish.locked && !lock.kept && said.form() == Form::People {
-        would_change(alloc, folder, paths, bytes, lock, wish, said)
+    if task.wish.locked && !lock.kept && said.form() == Form::People {
+        would_change(alloc, folder, task, lock, said)
     } else {
-        lock_told(alloc, folder, paths, bytes, from, lock, wish, said)
+        lock_told(alloc, folder, task, lock, said)
     }
 }
 
@@ -209,14 +197,17 @@ pub(crate) fn locked<F: Folder>(
 fn lock_told<F: Folder>(
     alloc: Global,
     folder: &mut F,
-    paths: &Paths<'_>,
-    bytes: &Bytes,
-    from: &Bytes,
+    task: Task<'_>,
     lock: NewLock<'_>,
-    wish: Wish,
     said: &mut Said,
 ) -> Result<Outcome, Fault> {
-    let path = paths.lock.as_str();
+    let Task {
+        project,
+        from,
+        wish,
+        ..
+    } = task;
+    let (path, bytes) = (project.paths.lock.as_str(), project.bytes);
     let text = changes_in(alloc, folder, bytes, path, lock, said.form(), wish.all)?;
     said.answer(text.as_str())?;
     tell_skipped(alloc, lock.skipped, said)?;
@@ -269,13 +260,12 @@ fn tell_lost(alloc: Global, lost: &[String], said: &mut Said) -> Result<Outcome,
 fn would_change<F: Folder>(
     alloc: Global,
     folder: &mut F,
-    paths: &Paths<'_>,
-    bytes: &Bytes,
+    task: Task<'_>,
     lock: NewLock<'_>,
-    wish: Wish,
     said: &mut Said,
 ) -> Result<Outcome, Fault> {
-    let path = paths.lock.as_str();
+    let Task { project, wish, .. } = task;
+    let (path, bytes) = (project.paths.lock.as_str(), project.bytes);
     let text = changes_in(alloc, folder, bytes, path, lock, Form::People, wish.all)?;
     let outcome = with_new_lock(alloc, path, bytes.lock.is_some(), lock, wish, said)?;
     if !said.is_quiet() {
@@ -362,8 +352,7 @@ pub(crate) fn no_lock(
 /// Tells why and where a lock can't be read, and what is taken from it.
 fn tell_repair(
     alloc: Global,
-    paths: &Paths<'_>,
-    bytes: &Bytes,
+    project: Project<'_>,
     repaired: &Repaired,
     said: &mut Said,
 ) -> Result<(), AllocError> {
@@ -371,8 +360,8 @@ fn tell_repair(
     if said.is_quiet() {
         return Ok(());
     }
-    tell_misreading(alloc, paths, bytes, said)?;
-    let path = paths.lock.as_str();
+    tell_misreading(alloc, project, said)?;
+    let path = project.paths.lock.as_str();
     let text = match said.form() {
         Form::People => kept_of(alloc, path, repaired.packages)?,
         Form::Programs => reports::messages::repair(alloc, path, repaired.packages)?,

@@ -3,7 +3,7 @@
 use crate::answers::{Form, flaws_in, inputs_in, lock_in, verdict_in, verdict_on};
 use crate::outcome::Outcome;
 use crate::paths::Paths;
-use crate::reading::Bytes;
+use crate::reading::{Bytes, Project};
 use crate::said::Said;
 use catalogue::Catalogue;
 use index_reader::Folder;
@@ -20,15 +20,14 @@ use std::alloc::{AllocError, Global};
 pub fn verify_told<F: Folder>(
     alloc: Global,
     folder: &mut F,
-    paths: &Paths<'_>,
-    bytes: &Bytes,
+    project: Project<'_>,
     said: &mut Said,
 ) -> Result<Outcome, Fault> {
-    match verdict_on(alloc, folder, bytes) {
-        Ok((verdict, index)) => judged(alloc, folder, paths, bytes, &verdict, &index, said),
+    match verdict_on(alloc, folder, project.bytes) {
+        Ok((verdict, index)) => judged(alloc, folder, project, &verdict, &index, said),
         Err(Fault::ChecksumChanged(name, version)) => {
             let fault = Fault::ChecksumChanged(name, version);
-            changed(alloc, folder, bytes, &fault, said)
+            changed(alloc, folder, project.bytes, &fault, said)
         }
         Err(fault) => Err(fault),
     }
@@ -38,12 +37,12 @@ pub fn verify_told<F: Folder>(
 fn judged<F: Folder>(
     alloc: Global,
     folder: &mut F,
-    paths: &Paths<'_>,
-    bytes: &Bytes,
+    project: Project<'_>,
     verdict: &Verdict,
     index: &Catalogue,
     said: &mut Said,
 ) -> Result<Outcome, Fault> {
+    let bytes = project.bytes;
     let text = verdict_in(alloc, verdict, said.form())?;
     if matches!(verdict, Verdict::Valid) {
         said.answer(text.as_str())?;
@@ -54,7 +53,7 @@ fn judged<F: Folder>(
     said.answer(text.as_str())?;
     said.answer(flaws.as_str())?;
     if said.is_quiet() {
-        tell_invalid(alloc, paths, verdict, said)?;
+        tell_invalid(alloc, project.paths, verdict, said)?;
     }
     said.advice("`cargo relock resolve` tells what a valid lock would change")?;
     Ok(Outcome::no())

@@ -3,7 +3,7 @@
 use crate::answers::{Form, inputs_in, meant_in, way_in};
 use crate::outcome::Outcome;
 use crate::paths::Paths;
-use crate::reading::Bytes;
+use crate::reading::Project;
 use crate::said::Said;
 use index_reader::Folder;
 use reports::{Inputs, Meant, Part, Wanted, WhyThere, package_in, part_in, why_there};
@@ -44,48 +44,45 @@ pub fn question_in(alloc: Global, text: &str) -> Result<Option<Question>, AllocE
 pub fn why_told<F: Folder>(
     alloc: Global,
     folder: &mut F,
-    paths: &Paths<'_>,
-    bytes: &Bytes,
+    project: Project<'_>,
     words: &str,
     question: &Question,
     all: bool,
     said: &mut Said,
 ) -> Result<Outcome, Fault> {
-    let inputs = inputs_in(alloc, bytes)?;
-    match question {
-        Question::Whole(wanted) => {
-            answered(alloc, folder, paths, &inputs, words, wanted, all, said)
-        }
+    let inputs = inputs_in(alloc, project.bytes)?;
+    let form = said.form();
+    let told = match question {
+        Question::Whole(wanted) => way_to(alloc, folder, &inputs, wanted, form, all)?,
         Question::Part(part) => match meant_in(alloc, &inputs, part)? {
-            Meant::One(wanted) => {
-                answered(alloc, folder, paths, &inputs, words, &wanted, all, said)
-            }
-            Meant::Absent => Ok(no_way(alloc, paths, words, NoWay::Absent, said)?),
-            Meant::Several => Ok(no_way(alloc, paths, words, NoWay::Several, said)?),
+            Meant::One(wanted) => way_to(alloc, folder, &inputs, &wanted, form, all)?,
+            Meant::Absent => Err(NoWay::Absent),
+            Meant::Several => Err(NoWay::Several),
         },
-    }
-}
-
-/// Why a package is in the lock.
-fn answered<F: Folder>(
-    alloc: Global,
-    folder: &mut F,
-    paths: &Paths<'_>,
-    inputs: &Inputs,
-    words: &str,
-    wanted: &Wanted,
-    all: bool,
-    said: &mut Said,
-) -> Result<Outcome, Fault> {
-    match why_there(alloc, folder, inputs, wanted)? {
-        WhyThere::Way(way) => {
-            let text = way_in(alloc, &way, said.form(), all)?;
-            let is_root = text.is_empty() && said.form() == Form::People;
+    };
+    match told {
+        Ok(text) => {
+            let is_root = text.is_empty() && form == Form::People;
             said.answer(if is_root { IS_ROOT } else { text.as_str() })?;
             Ok(Outcome::yes())
         }
-        WhyThere::Absent => Ok(no_way(alloc, paths, words, NoWay::Absent, said)?),
-        WhyThere::Unreached => Ok(no_way(alloc, paths, words, NoWay::Unreached, said)?),
+        Err(why) => Ok(no_way(alloc, project.paths, words, why, said)?),
+    }
+}
+
+/// What leads to a package of the lock.
+fn way_to<F: Folder>(
+    alloc: Global,
+    folder: &mut F,
+    inputs: &Inputs,
+    wanted: &Wanted,
+    form: Form,
+    all: bool,
+) -> Result<Result<String, NoWay>, Fault> {
+    match why_there(alloc, folder, inputs, wanted)? {
+        WhyThere::Way(way) => Ok(Ok(way_in(alloc, &way, form, all)?)),
+        WhyThere::Absent => Ok(Err(NoWay::Absent)),
+        WhyThere::Unreached => Ok(Err(NoWay::Unreached)),
     }
 }
 

@@ -2,7 +2,7 @@
 
 use crate::answers::asking::inputs_in;
 use crate::answers::form::Form;
-use crate::reading::Bytes;
+use crate::reading::{Bytes, Project};
 use catalogue::{Catalogue, Prefer};
 use derivations::Derivation;
 use index_reader::Folder;
@@ -55,17 +55,16 @@ pub(crate) fn changes_in<F: Folder>(
 pub(crate) fn refusal_in<F: Folder>(
     alloc: Global,
     folder: &mut F,
-    path: &str,
-    bytes: &Bytes,
+    project: Project<'_>,
     derivation: &Derivation,
     text: &str,
     form: Form,
     all: bool,
 ) -> Result<String, Fault> {
-    let inputs = inputs_in(alloc, bytes)?;
+    let inputs = inputs_in(alloc, project.bytes)?;
     let catalogue = reports::loaded(alloc, folder, &inputs)?;
     let lacks = match form {
-        Form::People => lacks_in(alloc, folder, path, bytes, &catalogue, &inputs)?,
+        Form::People => lacks_in(alloc, folder, project, &catalogue, &inputs)?,
         Form::Programs => reports::messages::lacks_of(alloc, folder, &catalogue, &inputs)?,
     };
     if !lacks.is_empty() {
@@ -85,29 +84,27 @@ pub(crate) fn refusal_in<F: Folder>(
 fn lacks_in<F: Folder>(
     alloc: Global,
     folder: &mut F,
-    path: &str,
-    bytes: &Bytes,
+    project: Project<'_>,
     catalogue: &Catalogue,
     inputs: &Inputs,
 ) -> Result<String, Fault> {
     let lacks = lacks_told(alloc, folder, catalogue, inputs)?;
-    Ok(placed(alloc, path, &bytes.manifest, &lacks)?)
+    Ok(placed(alloc, project, &lacks)?)
 }
 
 fn placed(
     alloc: Global,
-    path: &str,
-    manifest: &[u8],
+    project: Project<'_>,
     lacks: &[LackTold<'_>],
 ) -> Result<String, AllocError> {
     let mut asked = Vec::new(alloc);
     for lack in lacks.iter() {
         asked.push((lack.number, lack.dependency.name.as_str()))?;
     }
-    let lines = dependency_lines(alloc, manifest, &asked)?;
+    let lines = dependency_lines(alloc, &project.bytes.manifest, &asked)?;
     let mut text = String::new(alloc);
     for (place, lack) in lacks.iter().enumerate() {
-        push_place(&mut text, path, lines.get(place))?;
+        push_place(&mut text, project.paths.manifest, lines.get(place))?;
         text.push_str(lack.text.as_str())?;
     }
     Ok(text)
