@@ -19,8 +19,10 @@ use Rattle.model.proofs.Lists.{all_none, all_cons, all_first, all_rest, pairs_no
 use Rattle.features.specs.inner.Valid.{IsPackageName}
 use Rattle.model.proofs.Same.{text-refl}
 use Rattle.catalogue.specs.Stores.{AreRead, AreRising, AreKnown, BringValid, most_candidates, ranked_of, ranked_view}
-use Rattle.catalogue.specs.Stores.{record_of, Ranked, records, CatalogueView, Row, row_at, ranked_at, rows_view}
-use Rattle.catalogue.specs.Stores.{candidates_view, IsStore}
+use Rattle.catalogue.specs.Stores.{record_of, Ranked, records, CatalogueView, Row, row_at, ranked_at}
+use Rattle.catalogue.specs.inner.Views.{rows_view}
+use Rattle.catalogue.specs.Stores.{IsStore}
+use Rattle.catalogue.specs.inner.Views.{candidates_view}
 use Rattle.catalogue.specs.declared.candidate.Candidate.{Candidate}
 use Rattle.catalogue.specs.declared.candidates.Candidates.{Candidates}
 

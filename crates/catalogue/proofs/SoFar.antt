@@ -18,7 +18,8 @@ use Rattle.model.proofs.Mapped.{flat_last}
 use Rattle.features.specs.Views.{dependency_views}
 use Rattle.index_reader.specs.Files.{SkipView}
 use Rattle.index_reader.specs.Folders.{path_of}
-use Rattle.catalogue.specs.Stores.{Ranked, records, ranked_view, Row, CatalogueView, candidates_view, rows_view}
+use Rattle.catalogue.specs.Stores.{Ranked, records, ranked_view, Row, CatalogueView}
+use Rattle.catalogue.specs.inner.Views.{candidates_view, rows_view}
 use Rattle.catalogue.specs.Runs.{Asked, Calls, Chain, meant_by, once, needed_by, candidates_in, names_after, next_name}
 use Rattle.catalogue.specs.Runs.{AreNext}
 use Rattle.catalogue.specs.Loads.{IsWithin, skips_of, needs_of, most_names, ranked_in, IsAsked, IsSoFar, IsLoaded}

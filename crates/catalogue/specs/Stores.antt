@@ -18,7 +18,6 @@ use Rattle.classes.specs.Classes.{rust_version_view}
 use Rattle.catalogue.specs.declared.candidate.Candidate.{Candidate}
 use Rattle.model.specs.Content.{same_version}
 use Rattle.index_reader.specs.Files.{SkipView}
-use Rattle.catalogue.specs.declared.candidates.Candidates.{Candidates}
 use Rattle.model.specs.Summary as summary
 use Rattle.model.specs.Content as model
 
@@ -182,16 +181,6 @@ record_at (r ∷ rs) version = if same_version version r.version then Some r els
 -- the candidates as a selection is held against them
 abbrev pub rows_by_name : CatalogueView → List (List ℕ × List model.Candidate)
 rows_by_name c = map (λ row. (row.0, map as_candidate (records row.1))) c.rows
-
-abbrev pub candidates_view : Candidates → List Ranked
-candidates_view cs = ranked_view cs.versions.items cs.candidates.items
-
-abbrev pub row_of : List ℕ × Candidates → Row
-row_of p = (p.0, candidates_view p.1)
-
--- names, and at the same places their candidates
-abbrev pub rows_view : List (List ℕ) → List Candidates → List Row
-rows_view names cs = map row_of (zip names cs)
 
 -- each name once, the versions of each rising by precedence, and not too many, each with a feature table that knows its
 -- features; and each name, version and summary is a valid one

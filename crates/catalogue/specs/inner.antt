@@ -1,3 +1,4 @@
+pub mod Views
 pub mod Bounds
 pub mod Names
 pub mod Checksums

@@ -5,7 +5,8 @@ ghost use Rattle.std.specs.List.{AllPairs};
 ghost use Rattle.classes.specs.Classes.{rust_version_view};
 ghost use Rattle.model.specs.Candidates.{IsApart, IsOlder, is_locked, may_be_locked};
 ghost use Rattle.catalogue.specs.Loads.{packages_of_old, records_view, with_ranks, ranked_among};
-ghost use Rattle.catalogue.specs.Stores.{rank_by, fits_given, candidates_view, BringValid, KnowFeatures};
+ghost use Rattle.catalogue.specs.Stores.{rank_by, fits_given, BringValid, KnowFeatures};
+ghost use Rattle.catalogue.specs.inner.Views.{candidates_view};
 ghost use Rattle.catalogue.specs.Stores.{most_candidates};
 
 use crate::candidate::{Candidate, Rank};

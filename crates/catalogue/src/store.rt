@@ -12,7 +12,8 @@ ghost use Rattle.semver.specs.Parse.{Parts};
 ghost use Rattle.model.specs.Candidates.{RustVersion as Rust, by_preference};
 ghost use Rattle.index_reader.specs.Files.{skip_view};
 ghost use Rattle.catalogue.specs.Stores.{AreRanked, places_down, places_of, places_by_rank, said, said_by, AreRead};
-ghost use Rattle.catalogue.specs.Stores.{most_candidates, row_at, ranked_at, candidates_at, record_at, candidates_view};
+ghost use Rattle.catalogue.specs.Stores.{most_candidates, row_at, ranked_at, candidates_at, record_at};
+ghost use Rattle.catalogue.specs.inner.Views.{candidates_view};
 ghost use Rattle.catalogue.specs.Stores.{IsStore};
 
 use crate::candidate::{Candidate, Rank};
@@ -51,7 +52,8 @@ impl Model for Catalogue {
     ghost use Rattle.std.specs.List.{All, IsDistinct};
     ghost use Rattle.features.specs.inner.Valid.{IsPackageName};
     ghost use Rattle.model.specs.Summary.{same_text};
-    ghost use Rattle.catalogue.specs.Stores.{CatalogueView, rows_view, IsStore};
+    ghost use Rattle.catalogue.specs.Stores.{CatalogueView, IsStore};
+    ghost use Rattle.catalogue.specs.inner.Views.{rows_view};
 
     ghost Value = { CatalogueView };
 

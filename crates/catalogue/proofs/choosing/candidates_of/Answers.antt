@@ -8,7 +8,7 @@ use Rattle.model.specs.Candidates.{is_locked, may_be_locked}
 use Rattle.index_lines.specs.Views.{record_view}
 use Rattle.catalogue.specs.Loads.{packages_of_old, with_ranks}
 use Rattle.catalogue.specs.Runs.{as_record}
-use Rattle.catalogue.specs.Stores.{candidates_view}
+use Rattle.catalogue.specs.inner.Views.{candidates_view}
 use Rattle.catalogue.proofs.Chosen.{Brings, Knows, moved-all, sorted-rise, sorted-chosen, sorted-views}
 use Rattle.catalogue.proofs.choosing.candidates_of.Goals as goal
 

@@ -8,7 +8,7 @@ use Rattle.features.specs.Views.{dependency_views}
 use Rattle.index_reader.specs.Files.{skip_view}
 use Rattle.model.specs.Summary.{same_text}
 use Rattle.catalogue.specs.Loads.{packages_of_old, needs_of, IsLoaded}
-use Rattle.catalogue.specs.Stores.{candidates_view, rows_view}
+use Rattle.catalogue.specs.inner.Views.{candidates_view, rows_view}
 use Rattle.catalogue.specs.Runs.{meant_by}
 use Rattle.catalogue.proofs.SoFar.{begun, asked_more, all_asked, too_many, stopped, cut_after}
 use Rattle.catalogue.proofs.loading.ask_all.Goals as goal

@@ -1,6 +1,6 @@
 use Rattle.std.proofs.Common.{option_map, slice_get, sym, ap, ◌∙◌}
 use Rattle.std.specs.Option.{option_and_then}
-use Rattle.catalogue.specs.Stores.{candidates_view}
+use Rattle.catalogue.specs.inner.Views.{candidates_view}
 use Rattle.catalogue.proofs.Rows.{item_at, rows-at}
 use Rattle.catalogue.proofs.store.Catalogue.of.Goals as goal
 
