@@ -22,13 +22,14 @@ use std::time::Clock;
 /// The index of a run, which counts what it is asked for.
 type Index<'r, R> = Counted<'r, IndexFolder<DiskFolder<R>>, R>;
 
+/// Behind a box, since a check goes through all that a function owns wherever it can end.
 fn index_at<'r, R: Files + Clock + Eprint + AllocGlobal + Clone + Drop>(
     rt: &'r R,
     paths: &Paths<'_>,
     watch: Watch,
-) -> Result<Index<'r, R>, AllocError> {
+) -> Result<Box<Index<'r, R>>, AllocError> {
     let folder = folder_at(rt, paths)?;
-    Ok(Counted::new(folder, rt, watch))
+    Ok(Box::new(rt.alloc(), Counted::new(folder, rt, watch))?)
 }
 
 fn folder_at<R: Files + AllocGlobal + Clone + Drop>(
@@ -187,7 +188,7 @@ pub(crate) fn resolve_at<'a, R: Files + Clock + Eprint + AllocGlobal + Clone + D
     let project = Project::of(paths, &bytes);
     let wish = checked(rt, project, wish, said)?;
     let mut index = index_at(rt, paths, watch)?;
-    let told = resolve_told(rt.alloc(), &mut index, project, wish, said);
+    let told = resolve_told(rt.alloc(), &mut *index, project, wish, said);
     Ok(ended(rt, project, told, &index, watch, said)?)
 }
 
@@ -222,7 +223,7 @@ pub(crate) fn update_at<'a, R: Files + Clock + Eprint + AllocGlobal + Clone + Dr
     let project = Project::of(paths, &bytes);
     let wish = checked(rt, project, wish, said)?;
     let mut index = index_at(rt, paths, watch)?;
-    let told = update_told(rt.alloc(), &mut index, project, &asked, wish, said);
+    let told = update_told(rt.alloc(), &mut *index, project, &asked, wish, said);
     Ok(ended(rt, project, told, &index, watch, said)?)
 }
 
@@ -258,7 +259,7 @@ pub(crate) fn precise_at<'a, R: Files + Clock + Eprint + AllocGlobal + Clone + D
     let wish = checked(rt, project, wish, said)?;
     let mut index = index_at(rt, paths, watch)?;
     let told = match precise_in(alloc, project, words, &question, version, said) {
-        Ok(Ok((precise, pins))) => precisely(rt, &mut index, project, &precise, pins, wish, said),
+        Ok(Ok((precise, pins))) => precisely(rt, &mut *index, project, &precise, pins, wish, said),
         Ok(Err(outcome)) => Ok(outcome),
         Err(fault) => Err(fault),
     };
@@ -287,7 +288,7 @@ pub(crate) fn verify_at<'a, R: Files + Clock + Eprint + AllocGlobal + Clone + Dr
     let bytes = with_lock(rt, paths)?;
     let project = Project::of(paths, &bytes);
     let mut index = index_at(rt, paths, watch)?;
-    let told = verify_told(rt.alloc(), &mut index, project, said);
+    let told = verify_told(rt.alloc(), &mut *index, project, said);
     Ok(ended(rt, project, told, &index, watch, said)?)
 }
 
@@ -308,7 +309,7 @@ pub(crate) fn why_at<'a, R: Files + Clock + Eprint + AllocGlobal + Clone + Drop>
     let mut index = index_at(rt, paths, watch)?;
     let told = why_told(
         rt.alloc(),
-        &mut index,
+        &mut *index,
         project,
         package,
         &question,
@@ -356,7 +357,7 @@ pub(crate) fn skips_at<'a, R: Files + Clock + Eprint + AllocGlobal + Clone + Dro
     let bytes = read_files(rt, paths, false)?;
     let project = Project::of(paths, &bytes);
     let mut index = index_at(rt, paths, watch)?;
-    let told = skips_told(rt.alloc(), &mut index, &bytes, all, said);
+    let told = skips_told(rt.alloc(), &mut *index, &bytes, all, said);
     if told.is_ok() {
         tell_all_read(rt.alloc(), paths, &index, said)?;
     }
@@ -374,7 +375,7 @@ pub(crate) fn skips_at_all<'a, R: Files + Clock + Eprint + AllocGlobal + Clone +
     let alloc = rt.alloc();
     let files = paths_below(rt, paths.index.as_str())?;
     let mut index = index_at(rt, paths, watch)?;
-    let told = skips_told_of_all(alloc, &mut index, &files, all, said);
+    let told = skips_told_of_all(alloc, &mut *index, &files, all, said);
     if told.is_ok() {
         tell_all_read(alloc, paths, &index, said)?;
     }

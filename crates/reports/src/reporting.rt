@@ -28,20 +28,22 @@ impl Inputs {
     }
 }
 
-/// What is loaded of an index for these.
+/// What is loaded of an index for these; behind a box, since a check goes through all that a function owns wherever it
+/// can end.
 pub fn loaded<F: Folder>(
     alloc: Global,
     folder: &mut F,
     inputs: &Inputs,
-) -> Result<Catalogue, LoadFault> {
-    load(
+) -> Result<Box<Catalogue>, LoadFault> {
+    let catalogue = load(
         alloc,
         &inputs.manifest,
         folder,
         inputs.lock.as_ref(),
         &inputs.source,
         inputs.prefer,
-    )
+    )?;
+    Ok(Box::new(alloc, catalogue)?)
 }
 
 /// What changes from the lock to a new one.

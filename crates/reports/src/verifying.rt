@@ -38,16 +38,17 @@ pub fn loaded_beside<F: Folder>(
     folder: &mut F,
     inputs: &Inputs,
     lock: &LockContent,
-) -> Result<Catalogue, LoadFault> {
+) -> Result<Box<Catalogue>, LoadFault> {
     let unsummed = without_checksums(alloc, lock)?;
-    load(
+    let catalogue = load(
         alloc,
         &inputs.manifest,
         folder,
         Some(&unsummed),
         &inputs.source,
         Prefer::Newest,
-    )
+    )?;
+    Ok(Box::new(alloc, catalogue)?)
 }
 
 /// A sentence for each package of a lock that is yanked.

@@ -32,7 +32,7 @@ pub struct Way<'a> {
     pub lock: &'a LockContent,
     pub wanted: &'a Wanted,
     /// What is loaded of the index.
-    pub catalogue: Catalogue,
+    pub catalogue: Box<Catalogue>,
     /// The places of its packages, that of the root first.
     pub places: Vec<usize>,
 }
