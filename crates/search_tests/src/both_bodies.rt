@@ -1,6 +1,5 @@
 //! The tests: all that is generic over the body, at each body, and both bodies beside each other.
 
-use crate::against_plain::play_all;
 use crate::on_demand::come_on_demand;
 use crate::pigeons::four_to_seven;
 use crate::sets::{bodies_agree, sets};
@@ -15,8 +14,7 @@ use version_sets::{ListStates, States, WordStates};
 fn algebra<S: States + Drop>(rt: &impl Abort, alloc: Global) -> Result<(), AllocError> {
     sets::<S>(rt, alloc)?;
     stores::<S>(rt, alloc)?;
-    trails::<S>(rt, alloc)?;
-    play_all::<S>(rt, alloc)
+    trails::<S>(rt, alloc)
 }
 
 fn searches<S: States + Drop>(rt: &impl Abort, alloc: Global) -> Result<(), AllocError> {

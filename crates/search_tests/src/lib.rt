@@ -5,8 +5,6 @@
 #![tactic(auto)]
 
 #[cfg(test)]
-mod against_plain;
-#[cfg(test)]
 mod both_bodies;
 #[cfg(test)]
 mod deciding;
@@ -24,8 +22,6 @@ mod made_terms;
 mod on_demand;
 #[cfg(test)]
 mod pigeons;
-#[cfg(test)]
-mod plain;
 #[cfg(test)]
 mod preferring;
 #[cfg(test)]

@@ -1,12 +1,14 @@
 //! The trail: each script is a row of calls and of what has to be there after them.
 
-use crate::plain::Bits;
 use crate::trial::Trial;
 use incompatibilities::Id;
 use propagation::{Progress, Satisfier};
 use std::alloc::{AllocError, Global};
 use std::process::Abort;
 use version_sets::States;
+
+/// A vertex, and its states as bits.
+type Bits = (usize, u64);
 
 /// A call that has to be done, or what has to be there.
 enum Step {
