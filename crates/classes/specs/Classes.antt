@@ -1,4 +1,4 @@
--- The class of a version as a type of the program, and its text (Cargo book, "Dependency Resolution", "SemVer
+-- Classes of versions, whole numbers and Rust versions, with their texts (Cargo book, "Dependency Resolution", "SemVer
 -- compatibility").
 use Rattle.std.specs.Prelude.{ℕ, ◌∷◌, List, Bool, ◌&&◌, ◌||◌, not, ◌==◌, ◌^◌, if◌then◌else◌, nat_lt, nat_le, length}
 use Rattle.std.specs.Prelude.{slice_index, Option, Some, None, option_map, option_and_then}
@@ -11,6 +11,8 @@ use Rattle.std.specs.Str.Parse.{digits_value}
 use Rattle.features.specs.Names.{around}
 use Rattle.classes.specs.declared.rust_version.RustVersion.{RustVersion}
 use Rattle.model.specs.Selection as model
+
+-- ---- The class of a version.
 
 abbrev pub class_view : Class → model.Class
 class_view (Patch n) = model.patch n
@@ -37,6 +39,7 @@ number_of text =
 
 -- ---- Which texts are Rust versions (Cargo book, "The Manifest Format", `rust-version`).
 
+-- the three numbers of a Rust version
 abbrev pub Numbers : Type 0
 Numbers = ℕ × ℕ × ℕ
 

@@ -7,7 +7,6 @@ use Rattle.derivations.specs.Files.{most_steps, with_line}
 use Rattle.trees.specs.Trees.{is_blank}
 use Rattle.derivations.specs.Steps.{step_of_line}
 use Rattle.derivations.specs.inner.Tables.{TablesView, IsStepOf, IsGrown, step_at, steps_at}
-use Rattle.derivations.specs.declared.fault.LineFault.{LineFault}
 use Rattle.derivations.specs.declared.step.Step.{Step}
 use Rattle.derivations.proofs.ReadLaws.{line-is, one-after}
 use Rattle.derivations.proofs.TableLaws.{more-steps}

@@ -12,6 +12,7 @@ use Rattle.derivations.specs.declared.fault.LineFault.TheVariants as line
 use Rattle.derivations.specs.declared.fault.DerivationFault.{DerivationFault}
 use Rattle.derivations.specs.declared.fault.DerivationFault.TheVariants.{OutOfMemory, NotALine, Forward, TooMany}
 
+-- the fault that says only that memory was wanting
 abbrev pub wants_memory : DerivationFault → Bool
 wants_memory OutOfMemory = true
 wants_memory (NotALine n) = false

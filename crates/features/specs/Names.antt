@@ -1,5 +1,5 @@
--- Which texts are names of packages and of features (Cargo book, "The Manifest Format", `name` and `[features]`; ASCII
--- alone here).
+-- Which texts are names of packages and of features, and which are entries (Cargo book, "The Manifest Format", `name`
+-- and `[features]`; ASCII alone here).
 use Rattle.std.specs.Prelude.{ℕ, Bool, ◌&&◌, ◌||◌, ◌==◌, nat_le, List, length, if◌then◌else◌, drop, take, ◌-◌, Option}
 use Rattle.std.specs.Prelude.{Some, None, nat_eq, codes}
 use Rattle.std.specs.List.{list_all, before_first, after_first, list_any, starts_with, ends_with}
@@ -26,11 +26,11 @@ is_feature_name text = nat_le 1 (length text) && (nat_le (length text) 255 && li
 
 -- ---- Which texts are entries of features, and which entries they are (Cargo book, "Features").
 
--- what stands after a text that it begins with
+-- what stands behind a front, in a text that begins with it
 abbrev pub after_text : List ℕ → List ℕ → Option (List ℕ)
 after_text front text = if starts_with nat_eq text front then Some (drop (length front) text) else None
 
--- what stands before a text that it ends with
+-- what stands before an end, in a text that ends with it
 abbrev pub before_text : List ℕ → List ℕ → Option (List ℕ)
 before_text end text = if ends_with nat_eq text end then Some (take (length text - length end) text) else None
 

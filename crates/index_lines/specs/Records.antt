@@ -111,6 +111,8 @@ skip_of (feature.NoSuchFeature f) = Skipped BadFeatures
 skip_of (feature.NoSuchDependency f) = Skipped BadFeatures
 skip_of (feature.NotOptional f) = Skipped BadFeatures
 
+-- ---- The record of a line.
+
 -- a version of a package, as its line has it
 pub record RecordView : Type 0 where
   pub version : Parts

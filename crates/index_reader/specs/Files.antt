@@ -59,7 +59,7 @@ abbrev pub with_found : List ℕ → ℕ → RecordView → FileView → FileVie
 with_found name n r file = if is_checksum r.checksum then with_record name n r file
     else with_skip name n (if has_version file.records r.version then Duplicate else BadChecksum) file
 
--- no line means a want of memory
+-- what a line means is never a want of memory
 abbrev pub with_read : List ℕ → ℕ → Line RecordView → FileView → FileView
 with_read name n (Ok r) file = with_found name n r file
 with_read name n (Err (Skipped why)) file = with_skip name n why file

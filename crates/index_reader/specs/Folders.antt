@@ -1,5 +1,5 @@
--- What a folder of files answers for a path, and when a call of it may fail (Cargo book, "Registry Index"; the counting
--- of failures is our own).
+-- Where the file of a name lies, what a folder of files answers for a path, and when a call of it may fail (Cargo book,
+-- "Registry Index"; the counting of failures is our own).
 use Rattle.std.specs.Prelude.{ℕ, ◌==◌, if◌then◌else◌, List, ◌++◌, length, take, drop, map, codes, ◌≡◌, ◌<◌, ◌⊎◌, ◌^◌}
 use Rattle.std.specs.Prelude.{◌-◌, ◌+◌, nat_le, Bool, true, false, Option, option_map, Result, Ok, Err, String, Vec}
 use Rattle.std.specs.Prelude.{string_bytes}
@@ -26,6 +26,8 @@ folder_of name = if length name == 1 then codes "1/"
 
 abbrev pub path_of : List ℕ → List ℕ
 path_of name = folder_of (lower name) ++ lower name
+
+-- ---- What a call answers, and what it leaves.
 
 -- what a call answered: the bytes of the file, if there is one
 abbrev pub Answer : Type 0

@@ -20,6 +20,7 @@ use Rattle.features.specs.Names.{is_package_name}
 use Rattle.lockfile.specs.declared.fault.LockFault.{LockFault}
 use Rattle.lockfile.specs.declared.fault.LockFault.TheVariants.{OutOfMemory, NotToml, LockVersion, LockShape, TooLarge}
 
+-- the fault that says only that memory was wanting
 abbrev pub wants_memory : LockFault → Bool
 wants_memory OutOfMemory = true
 wants_memory NotToml = false

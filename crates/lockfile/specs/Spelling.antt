@@ -88,7 +88,7 @@ unfoldable pub spelling : Content → List ℕ
 spelling content = head ++ flat_map (λ p. block p (parts_text p.version) (list_texts content p)) content
 
 -- ---- The table that a content is spelled as: what a TOML reader is to find in the spelling, each table's keys in the
--- order of their bytes (TOML 1.0.0; Cargo book, "Cargo.toml vs Cargo.lock").
+-- order of their bytes (TOML; Cargo book, "Cargo.toml vs Cargo.lock").
 
 abbrev pub optional_member : List ℕ → Option (List ℕ) → Members → Members
 optional_member key None rest = rest
@@ -118,6 +118,8 @@ packages_member content (p ∷ ps) rest = member (codes "package") (array (secti
 
 abbrev pub table_of : Content → Members
 table_of content = packages_member content content (member (codes "version") (integer (pos 4)) no_members)
+
+-- ---- Which packages a lock can have, for the laws.
 
 -- a text that may be absent has no byte that a lock doesn't allow
 abbrev pub IsPlain : Option (List ℕ) → Type 0

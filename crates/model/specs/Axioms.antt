@@ -13,6 +13,8 @@ use Rattle.model.specs.Vertices.{Owner, the_root, version_of, Vertex, root, pkg,
 use Rattle.model.specs.Vertices.{version, in_class, has_state, same_vertex, owner_brings, dep_classes, class_candidates}
 use Rattle.model.specs.Vertices.{space}
 
+-- ---- Terms.
+
 -- a vertex and a set of its states
 pub record Term : Type 0 where
   pub vertex : Vertex
@@ -34,6 +36,8 @@ module _ (Assigns : Vertex → State → Type 0) where
 abbrev pub AreApart : List Term → Type 0
 AreApart [] = ⊤
 AreApart (t ∷ ts) = AllByRecursion (λ u. same_vertex t.vertex u.vertex ≡ false) ts × AreApart ts
+
+-- ---- The kinds, and what is an instance of each.
 
 pub data Kind : Type 0 where
   Root : Kind

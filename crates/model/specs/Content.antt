@@ -113,7 +113,7 @@ list_if (Some p) = p.list
 abbrev pub target_of : Content → ℕ → Dependency → Option ℕ
 target_of content n d = last_serving content d (list_if (slice_get content n))
 
--- ---- What is asked of something that may not be there.
+-- ---- What is asked of something that may not be there, and bytes that may be no text.
 
 -- whether there is one, and it passes the test
 abbrev pub passes : {X : Type 0} → (X → Bool) → Option X → Bool

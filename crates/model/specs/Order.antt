@@ -1,5 +1,5 @@
--- Package order: how the packages of a lock follow one another (Cargo book, "Cargo.toml vs Cargo.lock"; SemVer 2.0.0,
--- section 11).
+-- The orders of versions and of packages, and what makes a content and a catalogue (Cargo book, "Cargo.toml vs
+-- Cargo.lock"; SemVer 2.0.0, section 11).
 use Rattle.std.specs.Prelude.{Bool, false, if◌then◌else◌, ◌||◌, List, [], ◌∷◌, Option, Some, None, ℕ, ◌≡◌, ◌≢◌, ◌<◌}
 use Rattle.std.specs.Prelude.{length}
 use Rattle.std.specs.List.{list_any, All, AllPairs}
@@ -30,6 +30,8 @@ abbrev pub has_alike : {X : Type 0} → (X → X → Bool) → List X → Bool
 has_alike alike [] = false
 has_alike alike (x ∷ xs) = list_any (alike x) xs || has_alike alike xs
 
+-- ---- Texts, versions and packages in order.
+
 -- the order of two texts by their bytes
 abbrev pub text_cmp : List ℕ → List ℕ → Ordering
 text_cmp = slice_cmp nat_cmp
@@ -58,7 +60,6 @@ package_cmp p r = ordering_then (text_cmp p.name r.name)
 -- ---- What makes a list of packages the content of a lock, and what makes lists of versions a catalogue, whatever is
 -- selected (Cargo book, "Cargo.toml vs Cargo.lock" and "Registry Index").
 
--- what makes a list of packages a content
 pub record IsContent (content : Content) : Type 0 where
   -- in package order: no two are alike in name, version and source
   pub in_order : AllPairs (λ p r. package_cmp p r ≡ Less) content

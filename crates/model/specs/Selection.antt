@@ -1,4 +1,5 @@
--- When a content is a valid selection (Cargo book, "Dependency Resolution").
+-- When a content is a valid selection, and the facts and classes that this speaks of (Cargo book, "Dependency
+-- Resolution").
 use Rattle.std.specs.Prelude.{◌≡◌, ℕ, List, false, Some, slice_get, Contains, ◌<◌, ◌↔◌, true, length, IsSome, nat_lt}
 use Rattle.std.specs.Prelude.{if◌then◌else◌}
 use Rattle.model.specs.Summary.{Summary, Dependency, Entry, feature, dependency, dependency_feature, weak_feature}
@@ -8,9 +9,8 @@ use Rattle.model.specs.Content.{Package, Content, Problem, is_root, candidate_of
 use Rattle.model.specs.Order.{IsContent}
 
 -- ---- Which packages are here, which dependencies are enabled and which features are on: the facts that finite chains
--- of
--- reasons give (Cargo book, "Features"). The rules are stated once, over any packages N: what each brings, which one is
--- the root, which are here from the start, and where a dependency leads. A locked content, the preferred walk and an
+-- of reasons give (Cargo book, "Features"). The rules are stated once, over any packages N: what each brings, which one
+-- is the root, which are here from the start, and where a dependency leads. A locked content, the preferred walk and an
 -- assignment of the search each read them with their own targets.
 
 pub data Fact (N : Type 0) : Type 0 where
@@ -64,6 +64,8 @@ module _ {N : Type 0} (owner : N → Summary) (IsRoot Starts : N → Type 0) (ro
         → Holds (on n f) → Brings owner n i d → Lists owner n f (weak_feature d.name g) → Holds (enabled n i)
         → LeadsTo n i d t → Holds (on t g)
 
+-- ---- The class of a version (Cargo book, "Dependency Resolution", "SemVer compatibility").
+
 -- the leftmost nonzero number with the zeros before it
 pub data Class : Type 0 where
   patch : ℕ → Class
@@ -72,6 +74,8 @@ pub data Class : Type 0 where
 
 abbrev pub class_of : Parts → Class
 class_of v = if nat_lt 0 v.0 then major v.0 else if nat_lt 0 v.1 then minor v.1 else patch v.2
+
+-- ---- The valid selection.
 
 module _ (q : Problem) (content : Content) where
   abbrev pub IsRootAt : ℕ → Type 0

@@ -1,5 +1,5 @@
--- The vertices of the search, and the states that each may have (packages and versions in Dart pub's `solver.md`; the
--- rest is this project's).
+-- Owners, the vertices of the search, and the states that each may have (packages and versions in Dart pub's
+-- `solver.md`; the rest is this project's).
 use Rattle.std.specs.Prelude.{ℕ, List, [], ◌∷◌, Bool, true, false, ◌&&◌, if◌then◌else◌, Option, Some, None, nat_eq}
 use Rattle.std.specs.Prelude.{slice_get, map, filter}
 use Rattle.std.specs.List.{list_any}

@@ -10,8 +10,7 @@ use Rattle.model.specs.Vertices.{Owner, the_root, version_of, owner_brings}
 use Rattle.semver.specs.EvalViews.{matches_views}
 
 -- ---- The content that a choice of targets stands for: from the root, each enabled dependency leads where the choice
--- says
--- (Cargo book, "Dependency Resolution").
+-- says (Cargo book, "Dependency Resolution").
 
 -- the owner that a package is
 abbrev pub name_of : Problem → Package → Owner
@@ -40,6 +39,8 @@ module _ (q : Problem) (LeadsTo : Owner → ℕ → Dependency → Owner → Typ
     pub lists : (n t : ℕ) (p : Package) → slice_get content n ≡ Some p
         → Contains p.list t
         ↔ ((r : Package) × (i : ℕ) × (d : Dependency) × (slice_get content t ≡ Some r) × IsLink p r i d)
+
+-- ---- The picks, and the walk.
 
 -- the first of these that the dependency matches
 abbrev pub first_match : Dependency → List Candidate → Option Candidate

@@ -39,6 +39,9 @@ is_blank_byte b = b == 32 || (b == 9 || b == 13)
 abbrev pub is_blank : List ℕ → Bool
 is_blank line = list_all is_blank_byte line
 
+-- ---- The value that a text stands for.
+
+-- the fault that says only that memory was wanting
 abbrev pub wants_memory : TreeFault → Bool
 wants_memory OutOfMemory = true
 wants_memory NotJson = false

@@ -1,5 +1,5 @@
--- Which texts are vertices and states, and which vertices and states they are (the formats are this project's; versions
--- as in SemVer 2.0.0, section 2).
+-- Which texts are kinds of axioms, vertices and states, and which of these they are (the formats are this project's;
+-- versions as in SemVer 2.0.0, section 2).
 use Rattle.std.specs.Prelude.{ℕ, List, [], ◌∷◌, Option, codes, slice_index_or, ◌≡◌, Bool, true, false, if◌then◌else◌}
 use Rattle.std.specs.Prelude.{nat_lt, ◌++◌, Some, None, Result, Ok, Err, decimal}
 use Rattle.std.specs.List.{find}
@@ -56,7 +56,7 @@ kinds = model.Root ∷ model.Needed ∷ model.Target ∷ model.HasFeature ∷ mo
 abbrev pub kind_of_text : List ℕ → Option model.Kind
 kind_of_text text = find (λ k. same_text text (kind_text k)) kinds
 
--- ---- by number, as a search keeps them
+-- ---- The kinds by number, as a search keeps them.
 
 abbrev pub kind_number : model.Kind → ℕ
 kind_number model.Root = 0
@@ -74,7 +74,7 @@ kind_number model.WeakFeature = 9
 abbrev pub kind_at : ℕ → model.Kind
 kind_at n = slice_index_or kinds n model.Root
 
--- ---- the texts
+-- ---- The texts of owners, vertices and states.
 
 abbrev pub owner_text : Owner → List ℕ
 owner_text the_root = codes "root"
@@ -93,7 +93,7 @@ state_text present = codes "present"
 state_text (version v) = parts_text v
 state_text (in_class c) = class_text c
 
--- ---- what they are read as
+-- ---- What texts are read as.
 
 abbrev pub wants_memory : TextFault → Bool
 wants_memory OutOfMemory = true
