@@ -9,11 +9,13 @@
 //! matches some stand in one piece among all that the name has (`class_range`, `all_classes`).
 //!
 //! Terms whose names lie in a derivation, in the manifest or in the index are `Term` (`term.rt`), and the one cause
-//! that the terms of a step can have is read off them (`kinds.rt`).
+//! that the terms of a step can have is read off them (`kinds.rt`). The other way, a cause gives the terms of its
+//! instance by what they say (`symbolic.rt`).
 //!
 //! A layer above may rely on this: each look-up gives exactly what the model says (`owner_brings` and the like),
 //! borrowed from the manifest or the index, and takes no memory but for a list of classes; an owner that is no
-//! candidate brings nothing. If terms are those of an instance of the kind at all, it is that of the cause found.
+//! candidate brings nothing. If terms are those of an instance of the kind at all, it is that of the cause found;
+//! and the terms that a cause gives are just those of its instance.
 #![tactic(auto)]
 
 mod cause;

@@ -1,5 +1,5 @@
-//! The terms of an instance by what they say: of each kind of axiom they stand here alone. The checker makes sets of
-//! states of them, and the search tests of numbers.
+//! The terms of an instance by what they say: those of each kind of axiom stand here once. The checker makes sets of
+//! states of them, and the search makes tests of the numbers that states have.
 
 ghost use Rattle.std.specs.Prelude.{◌≡◌, ◌∷◌, [], IfOk};
 ghost use Rattle.semver.specs.Identifiers.{parts_of};

@@ -4,8 +4,8 @@
 //! beside that comes from `reports`, in lines for people, or from its `messages`, as JSON for programs; here alone it
 //! is chosen by whom it is for (`Form`), so that what a run does and its status are one for both.
 //!
-//! A run has one folder, which each of these is handed. What is loaded of it for a verdict tells the rest too; `resolve`
-//! keeps what it loads to itself, so the index is loaded once more for what is told of its answer.
+//! A run has one folder, which each of these is handed. What is loaded of it for a verdict tells the rest too;
+//! `resolve` keeps what it loads to itself, so the index is loaded once more for what is told of its answer.
 
 mod asking;
 mod changing;

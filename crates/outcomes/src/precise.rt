@@ -7,7 +7,7 @@ use crate::answers::{Form, NewLock, found_in, inputs_in, new_lock, refusal_in, r
 use crate::outcome::Outcome;
 use crate::pinning::Pins;
 use crate::reading::{Bytes, Project};
-use crate::resolving::{Task, Wish, locked, no_lock, preference};
+use crate::resolving::{Task, Wish, locked, no_lock};
 use crate::said::Said;
 use crate::why::{NoWay, Question, no_way};
 use derivations::Derivation;
@@ -128,12 +128,7 @@ fn pinned_told<F: Folder, P: Folder>(
     wish: Wish,
     said: &mut Said,
 ) -> Result<Outcome, Fault> {
-    let task = Task {
-        project,
-        from: &precise.rest,
-        prefer: preference(alloc, project.bytes, wish)?,
-        wish,
-    };
+    let task = Task::new(alloc, project, &precise.rest, wish)?;
     let answer = new_lock(alloc, pinned, task.from, task.prefer)?;
     match &*answer {
         Answer::Lock { bytes, kept, skips } => {
@@ -199,7 +194,7 @@ fn refused<P: Folder>(
     said: &mut Said,
 ) -> Result<Outcome, Fault> {
     let (name, version) = (&precise.name, &precise.version);
-    let (project, form, all) = (task.resolved(), said.form(), task.wish.all);
+    let (project, form, all) = (task.source(), said.form(), task.wish.all);
     let why = refusal_in(alloc, pinned, project, derivation, text, form, all)?;
     if form == Form::Programs {
         let there = format!(in alloc; " where {name} is {version}")?;

@@ -48,6 +48,48 @@ pub(crate) struct Task<'a> {
     pub(crate) wish: Wish,
 }
 
+impl<'a> Task<'a> {
+    /// A new lock of some files, told from those of a project.
+    pub(crate) fn new(
+        alloc: Global,
+        project: Project<'a>,
+        from: &'a Bytes,
+        wish: Wish,
+    ) -> Result<Task<'a>, AllocError> {
+        let prefer = if wish.ignore_rust_version {
+            Prefer::Newest
+        } else {
+            preferred_by_cargo(alloc, &project.bytes.manifest)?
+        };
+        Ok(Task {
+            project,
+            from,
+            prefer,
+            wish,
+        })
+    }
+
+    /// The files that a new lock comes from.
+    pub(crate) fn source(&self) -> Project<'a> {
+        Project::of(self.project.paths, self.from)
+    }
+
+    /// A lock that `resolve` gives, beside the old one.
+    pub(crate) fn new_lock_of<'b>(
+        &self,
+        bytes: &'b [u8],
+        kept: bool,
+        skipped: usize,
+    ) -> NewLock<'b> {
+        NewLock {
+            bytes,
+            kept: kept || bytes == lock_in(self.project.bytes),
+            prefer: self.prefer,
+            skipped,
+        }
+    }
+}
+
 /// What changes in the lock, or why there is none. With `repair` a lock that can't be read stops nothing.
 pub fn resolve_told<F: Folder>(
     alloc: Global,
@@ -90,17 +132,11 @@ fn resolved<F: Folder>(
     wish: Wish,
     said: &mut Said,
 ) -> Result<Outcome, Fault> {
-    let prefer = preference(alloc, project.bytes, wish)?;
-    let task = Task {
-        project,
-        from,
-        prefer,
-        wish,
-    };
-    match new_lock(alloc, folder, from, prefer) {
+    let task = Task::new(alloc, project, from, wish)?;
+    match new_lock(alloc, folder, from, task.prefer) {
         Ok(answer) => answered(alloc, folder, task, &answer, said),
         Err(Fault::ChecksumChanged(name, version)) => {
-            tell_checksums(alloc, folder, task.resolved(), name, version, said)
+            tell_checksums(alloc, folder, task.source(), name, version, said)
         }
         Err(fault) => Err(fault),
     }
@@ -136,39 +172,9 @@ fn unsolvable<F: Folder>(
     text: &str,
     said: &mut Said,
 ) -> Result<Outcome, Fault> {
-    let (project, form, all) = (task.resolved(), said.form(), task.wish.all);
+    let (project, form, all) = (task.source(), said.form(), task.wish.all);
     let why = refusal_in(alloc, folder, project, derivation, text, form, all)?;
     Ok(no_lock(alloc, project.paths, "", why.as_str(), said)?)
-}
-
-impl<'a> Task<'a> {
-    /// The files that a new lock comes from.
-    pub(crate) fn resolved(&self) -> Project<'a> {
-        Project::of(self.project.paths, self.from)
-    }
-
-    /// A lock that `resolve` gives, beside the old one.
-    pub(crate) fn new_lock_of<'b>(
-        &self,
-        bytes: &'b [u8],
-        kept: bool,
-        skipped: usize,
-    ) -> NewLock<'b> {
-        NewLock {
-            bytes,
-            kept: kept || bytes == lock_in(self.project.bytes),
-            prefer: self.prefer,
-            skipped,
-        }
-    }
-}
-
-pub(crate) fn preference(alloc: Global, bytes: &Bytes, wish: Wish) -> Result<Prefer, AllocError> {
-    if wish.ignore_rust_version {
-        Ok(Prefer::Newest)
-    } else {
-        preferred_by_cargo(alloc, &bytes.manifest)
-    }
 }
 
 /// What changes in the lock, and what becomes of it. A locked version that the index can't give stops that, unless a

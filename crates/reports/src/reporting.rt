@@ -28,20 +28,31 @@ impl Inputs {
     }
 }
 
-/// What is loaded of an index for these; behind a box, since a check goes through all that a function owns wherever it
-/// can end.
+/// What is loaded of an index for these.
 pub fn loaded<F: Folder>(
     alloc: Global,
     folder: &mut F,
     inputs: &Inputs,
 ) -> Result<Box<Catalogue>, LoadFault> {
+    loaded_by(alloc, folder, inputs, inputs.lock.as_ref(), inputs.prefer)
+}
+
+/// What is loaded of an index for these by a lock and a preference; behind a box, since a check goes through all that
+/// a function owns wherever it can end.
+pub(crate) fn loaded_by<F: Folder>(
+    alloc: Global,
+    folder: &mut F,
+    inputs: &Inputs,
+    lock: Option<&LockContent>,
+    prefer: Prefer,
+) -> Result<Box<Catalogue>, LoadFault> {
     let catalogue = load(
         alloc,
         &inputs.manifest,
         folder,
-        inputs.lock.as_ref(),
+        lock,
         &inputs.source,
-        inputs.prefer,
+        prefer,
     )?;
     Ok(Box::new(alloc, catalogue)?)
 }

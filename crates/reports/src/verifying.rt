@@ -1,7 +1,7 @@
 //! The report on a lock: all that is wrong with it.
 
-use crate::reporting::{Inputs, unless_failed};
-use catalogue::{Catalogue, LoadFault, Prefer, load};
+use crate::reporting::{Inputs, loaded_by, unless_failed};
+use catalogue::{Catalogue, LoadFault, Prefer};
 use changes::is_yanked;
 use flaws::{has_metadata, tell_flaws, without_checksums};
 use index_reader::Folder;
@@ -40,15 +40,7 @@ pub fn loaded_beside<F: Folder>(
     lock: &LockContent,
 ) -> Result<Box<Catalogue>, LoadFault> {
     let unsummed = without_checksums(alloc, lock)?;
-    let catalogue = load(
-        alloc,
-        &inputs.manifest,
-        folder,
-        Some(&unsummed),
-        &inputs.source,
-        Prefer::Newest,
-    )?;
-    Ok(Box::new(alloc, catalogue)?)
+    loaded_by(alloc, folder, inputs, Some(&unsummed), Prefer::Newest)
 }
 
 /// A sentence for each package of a lock that is yanked.

@@ -162,14 +162,6 @@ impl<S: States + Drop> Trial<S> {
         self.trail.assigned()
     }
 
-    /// How many states a vertex has left; none if it isn't there.
-    pub fn count(&self, vertex: usize) -> u32 {
-        if vertex >= self.vertices() {
-            return 0;
-        }
-        self.trail.states(vertex).count()
-    }
-
     /// Whether a vertex has a state left.
     pub fn has(&self, vertex: usize, state: u32) -> bool {
         if vertex >= self.vertices() {

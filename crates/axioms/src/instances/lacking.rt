@@ -15,10 +15,10 @@ ghost use Rattle.axioms.specs.inner.Keeping.{lacking_in};
 ghost use Rattle.axioms.specs.inner.KeptViews.{problem_of};
 
 use crate::instances::kept::{Kept, Number};
-use crate::instances::terms::term;
+use crate::instances::terms::flag_term;
 use classes::Class;
 use features::{FeatureName, PackageName};
-use lookups::{Problem, StateSet, Term, is_lacking, of_class};
+use lookups::{Problem, StateSet, Term, class_versions, is_lacking};
 use semver::Version;
 use std::alloc::{AllocError, Global};
 use vertices::{StateRef, VertexRef};
@@ -33,11 +33,7 @@ pub(crate) fn on_alone<'a>(
     ensures { IfOk result (λ v. term_views v.items
         ≡ at (model.feat name.entry.now (class_view class) feature.entry.now) (model.present ∷ []) ∷ []) }
 {
-    let on = term(
-        alloc,
-        VertexRef::Feature(name, class, feature),
-        StateRef::Present,
-    )?;
+    let on = flag_term(alloc, VertexRef::Feature(name, class, feature), true)?;
     Ok(vec![in alloc; on]?)
 }
 
@@ -96,7 +92,7 @@ fn lacking_set<'a>(
     ensures { IfOk result (λ s. s.0
         ≡ lacking_in (problem_view problem.now) name.entry.now feature.now (class_view class)) }
 {
-    let versions = of_class(class, problem.catalogue.versions(name));
+    let versions = class_versions(problem.catalogue, name, class);
     let states = lacking_states(alloc, problem, name, feature, versions)?;
     let number = Number::of(states.len(), versions.len());
     Ok((StateSet::rising(states), number))

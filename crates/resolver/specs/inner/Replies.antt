@@ -72,7 +72,7 @@ abbrev pub with_skips : Reply → Vec Skip Global → Answer
 with_skips (reply.Lock bytes kept) skips = Lock bytes kept skips
 with_skips (reply.Unsolvable derivation text) skips = Unsolvable derivation text skips
 
--- the same, or that there is none
+-- what a run gives before the skipped lines are put to it
 abbrev pub RepliesWith : Option (List ℕ) → Inputs → Result Reply Fault → Type 0
 RepliesWith old inputs (Ok given) = IsReply old inputs given
 RepliesWith old inputs (Err f) = UnlessMemory (input_wants_memory f) ((HoldsOld inputs → ⊥) × IsMisread inputs f)
