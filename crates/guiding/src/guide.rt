@@ -400,7 +400,7 @@ impl<'a, S: States + Drop> Guide<S> for Encoded<'a, S> {
                     vertices,
                     wanted,
                 )?;
-                let lead = self.leads.next(&self.asked);
+                let lead = self.leads.next(&self.asked, self.order.is_hard());
                 match self.ahead(trail, lead)? {
                     Some((vertex, state)) => {
                         let before = store.len();

@@ -1,5 +1,9 @@
-//! The vertices with one state beside absent that a version needs. What they ask for is asked for before the version is
-//! decided for, so that a version that they rule out opens no level.
+//! What is asked for before a version is decided for, so that a version that it rules out opens no level: the vertices
+//! with one state beside absent that the version needs, and, once the search is a hard one, each pair there is.
+//!
+//! A version can be ruled out by what is left of something that it needs only where its needs are in the store. So the
+//! refutation of a large graph takes a third of the steps with all instances there (docs/DECISIONS.md); most searches
+//! end long before they would pay for these.
 
 ghost use Rattle.std.specs.Prelude.{IfSome, map};
 ghost use Rattle.guiding.specs.inner.Guides.{IsUnasked};
@@ -9,10 +13,15 @@ use std::alloc::{AllocError, Global};
 use terms::Term;
 use version_sets::States;
 
-/// Vertices that may be asked for ahead. They only help to rule out a version soon: nothing rests on which they are.
+/// Pairs that may be asked for ahead. They only help to rule out a version soon: nothing rests on which they are.
 #[derive(Drop)]
 pub(crate) struct Leads {
+    /// Those that a version needs.
     vertices: Vec<usize>,
+    /// Where each pair is asked for, those of the vertices before this one were.
+    vertex: usize,
+    /// And of this one those of the states before this one.
+    state: u32,
 }
 
 impl Leads {
@@ -20,6 +29,8 @@ impl Leads {
     pub(crate) fn new(alloc: Global) -> Leads {
         Leads {
             vertices: Vec::new(alloc),
+            vertex: 0,
+            state: 0,
         }
     }
 
@@ -47,8 +58,9 @@ impl Leads {
         Ok(())
     }
 
-    /// One of the vertices with the one state that it has beside absent, if that wasn't asked for.
-    pub(crate) fn next<S: States>(&mut self, asked: &[S]) -> Option<(usize, u32)>
+    /// One of the vertices with the one state that it has beside absent, if that wasn't asked for; and after these, if
+    /// each pair is to be, the next of all.
+    pub(crate) fn next<S: States>(&mut self, asked: &[S], each: bool) -> Option<(usize, u32)>
         ensures { IfSome result (λ d. IsUnasked (map S.tests asked.now) d.0 d.1) }
     {
         'vertices: while let Some(vertex) = self.vertices.pop() {
@@ -56,6 +68,22 @@ impl Leads {
                 return Some((vertex, state));
             }
         }
+        if each { self.next_of_all(asked) } else { None }
+    }
+
+    /// The first pair that wasn't asked for, from where the last one was found.
+    fn next_of_all<S: States>(&mut self, asked: &[S]) -> Option<(usize, u32)>
+        ensures { IfSome result (λ d. IsUnasked (map S.tests asked.now) d.0 d.1) }
+    {
+        'vertices: for vertex in self.vertex..asked.len() {
+            self.vertex = vertex;
+            if let Some(state) = unasked_at(asked, vertex, self.state) {
+                self.state = state;
+                return Some((vertex, state));
+            }
+            self.state = 0;
+        }
+        self.vertex = asked.len();
         None
     }
 }
@@ -70,4 +98,17 @@ fn lead_at<S: States>(asked: &[S], vertex: usize) -> Option<u32>
     } else {
         None
     }
+}
+
+/// The first state of a vertex, from this one on, that isn't absent and wasn't asked for.
+fn unasked_at<S: States>(asked: &[S], vertex: usize, first: u32) -> Option<u32>
+    ensures { IfSome result (λ state. IsUnasked (map S.tests asked.now) vertex state) }
+{
+    let states = asked.get(vertex)?;
+    'states: for state in first..states.universe() {
+        if state > 0 && !states.member(state) {
+            return Some(state);
+        }
+    }
+    None
 }

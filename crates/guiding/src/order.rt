@@ -4,9 +4,9 @@
 //! its conflict wasn't about, and they are decided again. Where what it was about is decided before them, the next such
 //! conflict comes soon, and is near.
 //!
-//! After many conflicts on long trails each conflict counts, and a later one more (the activity of SAT solvers): most
-//! of so many vertices have no part in what is wrong. On short trails that may take far more steps
-//! (docs/DECISIONS.md).
+//! After many conflicts on long trails the search is a hard one: each conflict counts, and a later one more (the
+//! activity of SAT solvers), since most of so many vertices have no part in what is wrong. On short trails that may take
+//! far more steps (docs/DECISIONS.md).
 
 ghost use Rattle.std.specs.Prelude.{◌≡◌, length};
 ghost use Rattle.propagation.specs.Promises.{IsSound};
@@ -23,7 +23,7 @@ use version_sets::States;
 /// A trail of so many places is long.
 const LONG: usize = 4_000;
 
-/// After so many conflicts on long trails each one counts.
+/// After so many conflicts on long trails a search is hard.
 const PATIENCE: usize = 3_000;
 
 /// What a conflict counts at first.
@@ -144,6 +144,11 @@ impl Order {
         Ok(None)
     }
 
+    /// Whether there were many conflicts on long trails.
+    pub(crate) fn is_hard(&self) -> bool {
+        self.long > PATIENCE
+    }
+
     /// Looks at a jump back to a level, after a conflict that taught an entry: if it counts, then for all that the
     /// conflict was about.
     pub(crate) fn jumped<S: States + Drop>(
@@ -158,8 +163,8 @@ impl Order {
         if self.followed >= LONG {
             self.long = self.long.saturating_add(1);
         }
-        let is_each = self.long > PATIENCE;
-        if jump < FARTHEST && !is_each {
+        let is_hard = self.is_hard();
+        if jump < FARTHEST && !is_hard {
             return Ok(());
         }
         self.raise_at(store, learned)?;
@@ -169,7 +174,7 @@ impl Order {
                 self.raise_at(store, link.with)?;
             }
         }
-        if is_each {
+        if is_hard {
             self.count_more()?;
         }
         self.shed()
