@@ -16,12 +16,10 @@ use version_sets::States;
 /// Pairs that may be asked for ahead. They only help to rule out a version soon: nothing rests on which they are.
 #[derive(Drop)]
 pub(crate) struct Leads {
-    /// Those that a version needs.
+    /// The vertices that a version needs.
     vertices: Vec<usize>,
-    /// Where each pair is asked for, those of the vertices before this one were.
-    vertex: usize,
-    /// And of this one those of the states before this one.
-    state: u32,
+    /// The pair that was found last of all that there are: those before it were asked for.
+    last: (usize, u32),
 }
 
 impl Leads {
@@ -29,8 +27,7 @@ impl Leads {
     pub(crate) fn new(alloc: Global) -> Leads {
         Leads {
             vertices: Vec::new(alloc),
-            vertex: 0,
-            state: 0,
+            last: (0, 0),
         }
     }
 
@@ -75,15 +72,15 @@ impl Leads {
     fn next_of_all<S: States>(&mut self, asked: &[S]) -> Option<(usize, u32)>
         ensures { IfSome result (λ d. IsUnasked (map S.tests asked.now) d.0 d.1) }
     {
-        'vertices: for vertex in self.vertex..asked.len() {
-            self.vertex = vertex;
-            if let Some(state) = unasked_at(asked, vertex, self.state) {
-                self.state = state;
-                return Some((vertex, state));
+        let (from, mut state) = self.last;
+        'vertices: for vertex in from..asked.len() {
+            if let Some(state) = unasked_at(asked, vertex, state) {
+                self.last = (vertex, state);
+                return Some(self.last);
             }
-            self.state = 0;
+            state = 0;
         }
-        self.vertex = asked.len();
+        self.last = (asked.len(), 0);
         None
     }
 }
