@@ -31,18 +31,7 @@ use Rattle.resolver.specs.declared.fault.TooLarge.TheVariants as large
 
 abbrev pub input_wants_memory : Fault → Bool
 input_wants_memory fault.OutOfMemory = true
-input_wants_memory fault.ManifestNotToml = false
-input_wants_memory (fault.ManifestShape part) = false
-input_wants_memory (fault.UnsupportedSource kind) = false
-input_wants_memory (fault.BadRequirement name) = false
-input_wants_memory (fault.RootFeature f name) = false
-input_wants_memory fault.LockNotToml = false
-input_wants_memory fault.LockVersion = false
-input_wants_memory fault.LockShape = false
-input_wants_memory (fault.FolderFailed path) = false
-input_wants_memory (fault.TooLarge which) = false
-input_wants_memory (fault.ChecksumChanged name version) = false
-input_wants_memory fault.NotReadBack = false
+input_wants_memory _ = false
 
 -- what is wrong with the manifest, as a fault of a run
 abbrev pub of_manifest : ManifestFault → Fault
@@ -72,10 +61,7 @@ of_load (load.ChecksumChanged name version) = fault.ChecksumChanged name version
 -- what is wrong with our own bytes, where they don't read
 abbrev pub not_read_back : LockFault → Fault
 not_read_back lock.OutOfMemory = fault.OutOfMemory
-not_read_back lock.TooLarge = fault.NotReadBack
-not_read_back lock.NotToml = fault.NotReadBack
-not_read_back lock.LockVersion = fault.NotReadBack
-not_read_back lock.LockShape = fault.NotReadBack
+not_read_back _ = fault.NotReadBack
 
 -- what is wrong with the bytes of a derivation
 abbrev pub of_derivation : DerivationFault → CheckFault
