@@ -400,7 +400,7 @@ impl<'a, S: States + Drop> Guide<S> for Encoded<'a, S> {
                     vertices,
                     wanted,
                 )?;
-                let lead = self.leads.next(&self.asked, self.order.is_hard());
+                let lead = self.leads.next(&self.asked);
                 match self.ahead(trail, lead)? {
                     Some((vertex, state)) => {
                         let before = store.len();
@@ -436,6 +436,7 @@ impl<'a, S: States + Drop> Guide<S> for Encoded<'a, S> {
         learned: Id,
     ) -> Result<(), AllocError> {
         self.order.jumped(trail.level(), store, conflict, learned)?;
+        self.leads.allow_more(self.order.is_hard());
         // What was seen at places that were cut may stand otherwise when they are filled again.
         self.order.cut(trail.places())?;
         if trail.places() < self.seen {
