@@ -18,7 +18,7 @@ use crate::instances::kept::{Kept, Number};
 use crate::instances::terms::flag_term;
 use classes::Class;
 use features::{FeatureName, PackageName};
-use lookups::{Problem, StateSet, Term, class_versions, is_lacking};
+use lookups::{Problem, StateSet, Term, is_lacking, of_class};
 use semver::Version;
 use std::alloc::{AllocError, Global};
 use vertices::{StateRef, VertexRef};
@@ -92,7 +92,7 @@ fn lacking_set<'a>(
     ensures { IfOk result (λ s. s.0
         ≡ lacking_in (problem_view problem.now) name.entry.now feature.now (class_view class)) }
 {
-    let versions = class_versions(problem.catalogue, name, class);
+    let versions = of_class(class, problem.catalogue.versions(name));
     let states = lacking_states(alloc, problem, name, feature, versions)?;
     let number = Number::of(states.len(), versions.len());
     Ok((StateSet::rising(states), number))
