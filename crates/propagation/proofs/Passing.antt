@@ -116,7 +116,7 @@ module _ (es : List EntryView) (t : TrailView) (v : ℕ) (f : FrontView) (trail 
     sound = fronts_sound t (set t.fronts v f) trail.sound;
     lies = trail.lies;
     forced = trail.forced;
-    settled = record { now = trail.settled.now; before = trail.settled.before };
+    settled = record { below = trail.settled.below; now = trail.settled.now; before = trail.settled.before };
     fronts = record { long = length-set t.fronts v f ∙ trail.fronts.long; front = front_at };
   }
 

@@ -148,7 +148,7 @@ pub sat_from : (sets : List Members) (ts : List TermView) → AllHold (length ts
     → Sat sets (states_at ts)
 sat_from sets ts all u = holds_by sets ts u (states_at ts u) refl (λ x e i lt at. all i lt)
 
-holds_of : (sets : List Members) (ts : List TermView) (i : ℕ) → IsRising ts → i < length ts
+pub holds_of : (sets : List Members) (ts : List TermView) (i : ℕ) → IsRising ts → i < length ts
     → HoldsAt (set_of sets (term_at ts i).vertex) (states_at ts (term_at ts i).vertex)
     → relation_at sets ts i ≡ Satisfied
 holds_of sets ts i r lt h = holds_to (set_of sets (term_at ts i).vertex) (term_at ts i).states

@@ -30,6 +30,14 @@ pub record IsQuiet (sets : List Members) (f : Terms) : Type 0 where
   pub not_all : ¬ Sat sets f
   pub not_one : (v : ℕ) (x : Members) → ¬ IsOneOpen sets f v x
 
+-- two terms don't hold, so it is quiet, now or with more states
+pub record IsStill (sets : List Members) (f : Terms) : Type 0 where
+  pub first : ℕ
+  pub second : ℕ
+  pub two : first ≢ second
+  pub not_first : ¬ HoldsAt (set_of sets first) (f first)
+  pub not_second : ¬ HoldsAt (set_of sets second) (f second)
+
 -- a term has no state that is left, so it neither holds nor is open, now or with fewer states
 pub record RuledOut (sets : List Members) (f : Terms) : Type 0 where
   pub vertex : ℕ

@@ -113,6 +113,7 @@ up_to t k = record {
   settled = t.settled;
   propagated = t.propagated;
   fronts = t.fronts;
+  frail = t.frail;
 }
 
 abbrev pub EachFalls : ℕ → TrailView → Type 0

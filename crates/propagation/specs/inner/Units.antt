@@ -1,7 +1,7 @@
 -- One look at an incompatibility: how many of its terms are satisfied and open, term by term (Dart pub's `solver.md`,
 -- "Unit Propagation").
 use Rattle.std.specs.Prelude.{◌≡◌, ◌≢◌, ℕ, suc, ◌+◌, ◌-◌, ◌<◌, ◌≤◌, Bool, true, false, List, [], ◌∷◌, length, drop}
-use Rattle.std.specs.Prelude.{slice_index_or, Option, Some, None}
+use Rattle.std.specs.Prelude.{slice_index_or, ◌++◌, Option, Some, None}
 use Rattle.version_sets.specs.Sets.{Members, meet, rest}
 use Rattle.terms.specs.Terms.{TermView, relation_of}
 use Rattle.terms.specs.declared.term.Relation.{Relation}
@@ -78,6 +78,10 @@ abbrev pub AreAt : ℕ → List StepView → Type 0
 AreAt n [] = Unit {0}
 AreAt n (s ∷ ss) = (s.level ≡ n) × AreAt n ss
 
+-- frail entries come at the end
+abbrev pub IsFrailer : FrontView → FrontView → Type 0
+IsFrailer old new = (more : List ℕ) × (new.alive ≡ old.alive ++ more)
+
 -- assignments that entries of a store forced, at one level
 pub record IsSpread (es : List EntryView) (old new : TrailView) (added : List StepView) : Type 0 where
   pub trail : IsTrail es new
@@ -88,11 +92,13 @@ pub record IsSpread (es : List EntryView) (old new : TrailView) (added : List St
   pub spent : total new.sets + length added ≤ total old.sets
   pub assigned : new.assigned ≡ counted old.assigned (length added)
   pub follows : Follows es old.sets new.sets
+  pub frail : IsFrailer old.frail new.frail
 
--- how much is left to look at: twice the states that are left, the vertices that wait, and the entries that are not
--- settled
+-- how much is left to look at: twice the states that are left, the vertices that wait, the frail entries that are not
+-- settled, and twice the entries that are new, since one of these may become a frail one
 abbrev pub work : List EntryView → TrailView → ℕ
-work es t = total t.sets + total t.sets + (length t.steps - t.propagated) + (length es - t.settled)
+work es t = total t.sets + total t.sets + (length t.steps - t.propagated) + (length t.frail.alive - t.settled)
+    + (length es - t.frail.seen) + (length es - t.frail.seen)
 
 -- the vertex of the first place that was not propagated has a later place
 pub record HasLater (t : TrailView) : Type 0 where
@@ -116,6 +122,7 @@ pub record LooksWith (es : List EntryView) (old new : TrailView) (added : List S
   pub spread : IsSpread es old new added
   pub settled : new.settled ≡ old.settled
   pub propagated : new.propagated ≡ old.propagated
+  pub frail : new.frail ≡ old.frail
   pub keeps : (w i : ℕ) → w ≤ length old.steps → Rests es old.sets (drop w old.steps) i
       → Rests es new.sets (drop w new.steps) i
   pub ends : Ends

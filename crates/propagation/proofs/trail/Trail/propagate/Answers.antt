@@ -1,4 +1,5 @@
-use Rattle.std.proofs.Common.{rules, ◌≡◌, length, sym, ◌∙◌, subst}
+use Rattle.std.proofs.Common.{rules, ◌≡◌, ◌++◌, length, take, sym, ap, ◌∙◌, subst}
+use Rattle.std.proofs.Math.Seq.{take-append_seam}
 use Rattle.std.proofs.lemmas.List.{length-map}
 use Rattle.incompatibilities.specs.Stores.{entries_view}
 use Rattle.propagation.specs.Promises.{IsTrail, SameSpaces}
@@ -14,8 +15,14 @@ returns-in-Err-clause-kept g c =
     let up = c.spread.ensures.spread in
     let down = c.shrink.ensures.longer in
     let count : c.len-places.result ≡ length (view c.args.self.now).steps = rw length-map (search rules) in
-    restored (view c.args.self.now) (view c.spread.new.self) (view c.shrink.new.self) up.0 down.0 up.1.longer down.1
-    (c.shrink.ensures.places ∙ count) (c.shrink.ensures.level ∙ up.1.level)
+    let old = (view c.args.self.now).frail.alive in
+    let frail : length old ≡ c.len-frail.result = search rules in
+    let alive : (view c.shrink.new.self).frail.alive ≡ old ++ up.1.frail.0 =
+    ap (λ f. f.alive) c.shrink.ensures.frail ∙ up.1.frail.1 in
+    restored (view c.args.self.now) (view c.spread.new.self) (view c.shrink.new.self) up.0 down.0
+    c.truncate.new.self.items up.1.longer down.1 (c.shrink.ensures.places ∙ count) (c.shrink.ensures.level ∙ up.1.level)
+    (c.truncate.ensures.items ∙ ap (take c.len-frail.result) alive ∙ ap (λ n. take n (old ++ up.1.frail.0)) (sym frail)
+    ∙ take-append_seam old up.1.frail.0)
 
 pub returns-in-Err-clause-trail : goal.returns-in-Err-clause-trail
 returns-in-Err-clause-trail g c = subst (IsTrail (entries_view g.S.States.tests c.args.store.now))
