@@ -2,7 +2,7 @@
 //! with one state beside absent that the version needs, and, once the search is a hard one, by and by each pair.
 //!
 //! A version is ruled out by what is left of something that it needs only where its needs are in the store. So a large
-//! graph is refuted in a third of the steps with all instances there (docs/DECISIONS.md). Most searches end long before
+//! graph is refuted in two fifths of the steps with all instances there (docs/DECISIONS.md). Most searches end long before
 //! they would pay for these; in a hard one each conflict pays for some.
 
 ghost use Rattle.std.specs.Prelude.{IfSome, map};
@@ -107,8 +107,8 @@ fn lead_at<S: States>(asked: &[S], vertex: usize) -> Option<u32>
     ensures { IfSome result (λ state. IsUnasked (map S.tests asked.now) vertex state) }
 {
     let states = asked.get(vertex)?;
-    if states.universe() == 2 && !states.member(1) {
-        Some(1)
+    if states.universe() == 2 {
+        unasked_at(asked, vertex, 1)
     } else {
         None
     }
