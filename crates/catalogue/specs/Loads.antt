@@ -18,9 +18,8 @@ use Rattle.index_lines.specs.Views.{record_view}
 use Rattle.index_reader.specs.declared.folder.FolderFault.TheVariants.{Failed}
 use Rattle.index_lines.specs.declared.record.Record.{Record}
 use Rattle.index_reader.specs.declared.skip.Skip.{Skip}
-use Rattle.catalogue.specs.Stores.{Ranked, rank_of, CatalogueView, candidates_at, record_at, Said}
+use Rattle.catalogue.specs.Stores.{Ranked, rank_of, CatalogueView, candidates_at, record_at, Said, said}
 use Rattle.catalogue.specs.inner.Views.{candidates_view}
-use Rattle.catalogue.specs.Stores.{said}
 use Rattle.features.specs.Views.{dependency_views}
 use Rattle.catalogue.specs.Runs.{Asked, Calls, Chain, as_record, meant_by, records_of, AreNext, next_name}
 use Rattle.catalogue.specs.declared.store.Prefer.{Prefer}

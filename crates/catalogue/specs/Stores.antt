@@ -26,14 +26,9 @@ use Rattle.model.specs.Content as model
 
 abbrev pub same_rank : Rank → Rank → Bool
 same_rank Locked Locked = true
-same_rank Locked Fits = false
-same_rank Locked Rest = false
-same_rank Fits Locked = false
 same_rank Fits Fits = true
-same_rank Fits Rest = false
-same_rank Rest Locked = false
-same_rank Rest Fits = false
 same_rank Rest Rest = true
+same_rank _ _ = false
 
 -- the rank of a record that is locked or not, and fits or not
 abbrev pub rank_by : Bool → Bool → Rank
@@ -111,8 +106,7 @@ abbrev pub said_by : Candidate → Said
 said_by c = record {
   checksum = c.checksum;
   yanked = c.yanked;
-  rust_version =
-      option_map rust_version_view c.rust_version;
+  rust_version = option_map rust_version_view c.rust_version;
   brings = summary_view c.brings;
 }
 
