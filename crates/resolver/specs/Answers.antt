@@ -1,11 +1,11 @@
 -- What the calls of this crate answer.
-use Rattle.std.specs.Prelude.{◌≡◌, ◌≢◌, ◌<◌, ◌⊎◌, ◌↔◌, ℕ, true, false, List, [], ◌∷◌, length, map}
-use Rattle.std.specs.Prelude.{Option, Some, None, Result, Ok, Err, String, Vec, string_bytes}
+use Rattle.std.specs.Prelude.{◌≡◌, ◌≢◌, ◌<◌, ◌⊎◌, ◌↔◌, ℕ, true, false, List, length, map}
+use Rattle.std.specs.Prelude.{Option, Some, Result, Ok, Err, String, Vec, string_bytes}
 use Rattle.std.specs.declared.alloc.Global.{Global}
 use Rattle.model.specs.Content.{Content, Problem}
 use Rattle.model.specs.Derivation.{IsAccepted, Step}
 use Rattle.model.specs.Selection.{IsValidSelection}
-use Rattle.index_reader.specs.Files.{SkipView, skip_view}
+use Rattle.index_reader.specs.Files.{skip_view}
 use Rattle.index_reader.specs.declared.skip.Skip.{Skip}
 use Rattle.lockfile.specs.Locks.{content_of_bytes, most_bytes, table_of_bytes}
 use Rattle.lockfile.specs.Spelling.{spelling, table_of}
@@ -114,15 +114,6 @@ IsUnreadable content =
 
 -- ---- the call
 
--- a loaded index, where these skips of it are none
-abbrev pub if_none : List SkipView → CatalogueView → Option CatalogueView
-if_none [] index = Some index
-if_none (_ ∷ _) index = None
-
--- a loaded index of which no line was skipped
-abbrev pub if_unskipped : CatalogueView → Option CatalogueView
-if_unskipped index = if_none index.skips index
-
 module _ {S : Type 0} (calls : Calls S) (failed : S → ℕ) (request : RequestView) (before : S) where
   pub record IsAnswered (answer : Answer) (after : S) : Type 0 where
     pub inputs : Inputs
@@ -146,11 +137,11 @@ module _ {S : Type 0} (calls : Calls S) (failed : S → ℕ) (request : RequestV
   Resolves (Err f) after = EndsWith calls failed request before (input_wants_memory f)
       (IsInputFault calls failed request before f after ⊎ IsUnanswered f after) after
 
-  -- the same with the index that was loaded for the answer, where no line of it was skipped
-  pub record IsAnsweredKeeping (answer : Answer) (index : Option CatalogueView) (after : S) : Type 0 where
+  -- the same with the index that was loaded for the answer
+  pub record IsAnsweredKeeping (answer : Answer) (index : CatalogueView) (after : S) : Type 0 where
     pub answered : IsAnswered answer after
-    pub index_is : index ≡ if_unskipped (answered.inputs).catalogue
+    pub index_is : index ≡ (answered.inputs).catalogue
 
-  abbrev pub ResolvesKeeping : Result (Answer × Option CatalogueView) Fault → S → Type 0
+  abbrev pub ResolvesKeeping : Result (Answer × CatalogueView) Fault → S → Type 0
   ResolvesKeeping (Ok given) after = IsAnsweredKeeping given.0 given.1 after
   ResolvesKeeping (Err f) after = Resolves (Err f) after

@@ -3,7 +3,7 @@
 ghost use Rattle.std.specs.Prelude.{◌≡◌, ◌↔◌, true, map, IfOk, Ok, option_copied};
 ghost use Rattle.index_reader.specs.Files.{skip_view};
 ghost use Rattle.resolver.specs.Inputs.{old_of_bytes};
-ghost use Rattle.resolver.specs.Answers.{Resolves, ResolvesKeeping, if_unskipped};
+ghost use Rattle.resolver.specs.Answers.{Resolves, ResolvesKeeping};
 ghost use Rattle.resolver.specs.inner.Replies.{HoldsOld, RepliesWith, with_skips};
 
 use crate::fault::Fault;
@@ -74,7 +74,7 @@ pub fn resolve<F: Folder>(
 }
 
 /// The same, with the loaded index beside the answer, for a caller that ends soon and needn't give it back: piece by
-/// piece that takes a while. Where a line was skipped there is none, for the skips are taken out of it.
+/// piece that takes a while.
 ///
 /// # Errors
 /// Those of `resolve`.
@@ -85,7 +85,7 @@ pub fn resolve_keeping<F: Folder>(
     old: Option<&[u8]>,
     source: &Source,
     prefer: Prefer,
-) -> Result<(Answer, Option<Catalogue>), Fault>
+) -> Result<(Answer, Catalogue), Fault>
     ensures { ResolvesKeeping F.calls F.failed (record {
       manifest = manifest.now;
       old = option_copied old.entry;
@@ -104,20 +104,29 @@ pub fn resolve_keeping<F: Folder>(
     let _ = source.as_str();
     let inputs = read_inputs(alloc, &request, folder)?;
     let reply = reply_to(alloc, old, &inputs)?;
-    let (skips, index) = parted(alloc, inputs.catalogue);
-    Ok((with_skips(reply, skips), index))
+    let skips = copied(alloc, inputs.catalogue.skips())?;
+    Ok((with_skips(reply, skips), inputs.catalogue))
 }
 
-/// The skipped lines of an index, and the index where there are none.
-fn parted(alloc: Global, index: Catalogue) -> (Vec<Skip>, Option<Catalogue>)
-    ensures skips { map skip_view result.0.items ≡ index.skips }
-    ensures index { result.1 ≡ if_unskipped index }
+/// Skipped lines, copied.
+fn copied(alloc: Global, skips: &[Skip]) -> Result<Vec<Skip>, AllocError>
+    ensures { IfOk result (λ copies. map skip_view copies.items ≡ map skip_view skips.now) }
 {
-    if index.skips().is_empty() {
-        (Vec::new(alloc), Some(index))
-    } else {
-        (index.into_skips(), None)
+    let mut copies = Vec::new(alloc);
+    'skips: for skip in skips {
+        copies.push(copy_of(skip)?)?;
     }
+    Ok(copies)
+}
+
+fn copy_of(skip: &Skip) -> Result<Skip, AllocError>
+    ensures { IfOk result (λ copy. skip_view copy ≡ skip_view skip.now) }
+{
+    Ok(Skip {
+        name: skip.name.clone()?,
+        line: skip.line,
+        reason: skip.reason,
+    })
 }
 
 /// The answer with the skipped lines.
