@@ -137,13 +137,6 @@ impl Catalogue {
         self.skips.as_slice()
     }
 
-    /// The skips alone, once nothing else is needed.
-    pub fn into_skips(self) -> Vec<Skip>
-        ensures { map skip_view result.items ≡ self.skips }
-    {
-        self.skips
-    }
-
     /// The text of the run's source.
     pub fn source(&self) -> &str
         ensures { result.now ≡ self.now.source }

@@ -2,8 +2,8 @@
 //! with one state beside absent that the version needs, and, once the search is a hard one, by and by each pair.
 //!
 //! A version is ruled out by what is left of something that it needs only where its needs are in the store. So a large
-//! graph is refuted in two fifths of the steps with all instances there (docs/DECISIONS.md). Most searches end long before
-//! they would pay for these; in a hard one each conflict pays for some.
+//! graph is refuted in two fifths of the steps with all instances there (docs/DECISIONS.md). Most searches end long
+//! before they would pay for these; in a hard one each conflict pays for some.
 
 ghost use Rattle.std.specs.Prelude.{IfSome, map};
 ghost use Rattle.guiding.specs.inner.Guides.{IsUnasked};

@@ -1,6 +1,6 @@
--- Entries that no cut wakes: two terms that don't hold held neither while more states were left. And what a store's
--- front keeps, with one entry more.
-use Rattle.std.proofs.Common.{◌≡◌, ◌≢◌, ℕ, suc, ◌+◌, ◌<◌, ◌≤◌, List, [], ◌∷◌, ◌++◌, length, get_or, sym, ap, ◌∙◌}
+-- Entries that no cut wakes: where two terms don't hold, they didn't while more states were left. And how far a store was
+-- looked through, with one entry more.
+use Rattle.std.proofs.Common.{◌≡◌, ◌≢◌, ℕ, ◌+◌, ◌<◌, ◌≤◌, List, [], ◌∷◌, ◌++◌, length, get_or, sym, ap, ◌∙◌}
 use Rattle.std.proofs.Common.{drop, take, Option, None, Some, IfSome, refl, subst, arith, inl, inr}
 use Rattle.std.proofs.lemmas.Bool.{cases_eq, cases_lt}
 use Rattle.std.proofs.lemmas.List.{append-nil, get_or_append_left, length-append}
@@ -12,7 +12,7 @@ use Rattle.terms.specs.Terms.{TermView}
 use Rattle.terms.specs.declared.term.Relation.TheVariants.{Satisfied}
 use Rattle.incompatibilities.specs.Incompatibilities.{HoldsAt, Terms, states_at}
 use Rattle.incompatibilities.specs.Stores.{EntryView, terms_of}
-use Rattle.propagation.specs.Trails.{FrontView, StepView, TrailView, set_of, sets_at, step_at}
+use Rattle.propagation.specs.Trails.{SiftedView, StepView, TrailView, set_of, sets_at, step_at}
 use Rattle.propagation.specs.Satisfaction.{IsQuiet, IsStill}
 use Rattle.propagation.specs.Promises.{AreSettled, IsSettled, IsSound, IsTrail, Rests}
 use Rattle.propagation.specs.inner.Units.{IsFrailer, IsSpread, LiesOn, relation_at, term_at, work}
@@ -64,18 +64,18 @@ still_before t sound f k le s = record {
         (holds_later t sound u k (length t.steps) le (omega arith) (f u) h)
 
 -- one entry more was looked through
-abbrev with_still : FrontView → FrontView
-with_still f = record { seen = f.seen + 1; alive = f.alive }
+abbrev with_still : SiftedView → SiftedView
+with_still f = record { seen = f.seen + 1; frail = f.frail }
 
-abbrev with_frail : FrontView → FrontView
-with_frail f = record { seen = f.seen + 1; alive = f.alive ++ f.seen ∷ [] }
+abbrev with_frail : SiftedView → SiftedView
+with_frail f = record { seen = f.seen + 1; frail = f.frail ++ f.seen ∷ [] }
 
-one_still : (es : List EntryView) (f : FrontView) (a c : ℕ) (ss : List StepView) (xs : List Members)
+one_still : (es : List EntryView) (f : SiftedView) (a c : ℕ) (ss : List StepView) (xs : List Members)
     → f.seen < length es → IsStill xs (terms_of es f.seen) → IsSettled es f a c ss xs
     → IsSettled es (with_still f) a c ss xs
 one_still es f a c ss xs lt still s = record {
   few = omega (arith, lt);
-  back = s.back;
+  settled_few = s.settled_few;
   low = s.low;
   rest = λ id done. let seen = done.seen in elim (cases_lt id f.seen) [
     | inl less ↦ s.rest id (record { seen = less; past = done.past })
@@ -84,29 +84,29 @@ one_still es f a c ss xs lt still s = record {
   ];
 }
 
-one_frail : (es : List EntryView) (f : FrontView) (a c : ℕ) (ss : List StepView) (xs : List Members)
+one_frail : (es : List EntryView) (f : SiftedView) (a c : ℕ) (ss : List StepView) (xs : List Members)
     → f.seen < length es → IsSettled es f a c ss xs → IsSettled es (with_frail f) a c ss xs
 one_frail es f a c ss xs lt s = record {
   few = omega (arith, lt);
-  back = (let b = s.back in omega (arith, b, more));
+  settled_few = (let b = s.settled_few in omega (arith, b, more));
   low = s.low;
   rest = λ id done. let seen = done.seen in elim (cases_lt id f.seen) [
     | inl less ↦ s.rest id (record {
       seen = less;
       past = λ j le jl e. done.past j le (omega (arith, jl, more))
-          (get_or_append_left f.alive (f.seen ∷ []) 0 j jl ∙ e);
+          (get_or_append_left f.frail (f.seen ∷ []) 0 j jl ∙ e);
     })
     | inr ge ↦ let same : f.seen ≡ id = omega (arith, seen, ge) in
-        absurd (done.past (length f.alive) s.back (omega (arith, more)) (get_or-append_seam f.alive f.seen [] 0 ∙ same))
+        absurd (done.past (length f.frail) s.settled_few (omega (arith, more)) (get_or-append_seam f.frail f.seen [] 0 ∙ same))
   ];
 }
   where
-    more : length (f.alive ++ f.seen ∷ []) ≡ length f.alive + 1
-    more = length-append f.alive (f.seen ∷ []) ∙ omega arith
+    more : length (f.frail ++ f.seen ∷ []) ≡ length f.frail + 1
+    more = length-append f.frail (f.seen ∷ []) ∙ omega arith
 
--- the same trail, with this front of its store
-abbrev pub sifted : TrailView → FrontView → TrailView
-sifted t f = record {
+-- the same trail, with its store looked through so far
+abbrev pub with_sifted : TrailView → SiftedView → TrailView
+with_sifted t f = record {
   sets = t.sets;
   steps = t.steps;
   latest = t.latest;
@@ -115,41 +115,41 @@ sifted t f = record {
   settled = t.settled;
   propagated = t.propagated;
   fronts = t.fronts;
-  frail = f;
+  sifted = f;
 }
 
-settled_still : (es : List EntryView) (t : TrailView) → IsSound t → t.frail.seen < length es
-    → IsStill t.sets (terms_of es t.frail.seen) → AreSettled es t → AreSettled es (sifted t (with_still t.frail))
+settled_still : (es : List EntryView) (t : TrailView) → IsSound t → t.sifted.seen < length es
+    → IsStill t.sets (terms_of es t.sifted.seen) → AreSettled es t → AreSettled es (with_sifted t (with_still t.sifted))
 settled_still es t sound lt still a = record {
   below = λ j jl. let b = a.below j jl in omega (arith, b);
-  now = one_still es t.frail t.settled t.propagated t.steps t.sets lt still a.now;
-  before = λ k kl. one_still es t.frail (step_at t.steps k).settled (step_at t.steps k).propagated (take k t.steps)
-      (sets_at t k) lt (still_before t sound (terms_of es t.frail.seen) k (omega (arith, kl)) still) (a.before k kl);
+  now = one_still es t.sifted t.settled t.propagated t.steps t.sets lt still a.now;
+  before = λ k kl. one_still es t.sifted (step_at t.steps k).settled (step_at t.steps k).propagated (take k t.steps)
+      (sets_at t k) lt (still_before t sound (terms_of es t.sifted.seen) k (omega (arith, kl)) still) (a.before k kl);
 }
 
-settled_frail : (es : List EntryView) (t : TrailView) → t.frail.seen < length es → AreSettled es t
-    → AreSettled es (sifted t (with_frail t.frail))
+settled_frail : (es : List EntryView) (t : TrailView) → t.sifted.seen < length es → AreSettled es t
+    → AreSettled es (with_sifted t (with_frail t.sifted))
 settled_frail es t lt a = record {
-  below = λ j jl. elim (cases_lt j (length t.frail.alive)) [
+  below = λ j jl. elim (cases_lt j (length t.sifted.frail)) [
     | inl less ↦
         let b = a.below j less in
-        omega (arith, b, get_or_append_left t.frail.alive (t.frail.seen ∷ []) 0 j less)
+        omega (arith, b, get_or_append_left t.sifted.frail (t.sifted.seen ∷ []) 0 j less)
     | inr ge ↦
-        let last : length t.frail.alive ≡ j =
-        omega (arith, ge, jl, length-append t.frail.alive (t.frail.seen ∷ [])) in
+        let last : length t.sifted.frail ≡ j =
+        omega (arith, ge, jl, length-append t.sifted.frail (t.sifted.seen ∷ [])) in
         omega (
           arith,
-          ap (λ n. get_or (t.frail.alive ++ t.frail.seen ∷ []) n 0) (sym last)
-              ∙ get_or-append_seam t.frail.alive t.frail.seen [] 0,
+          ap (λ n. get_or (t.sifted.frail ++ t.sifted.seen ∷ []) n 0) (sym last)
+              ∙ get_or-append_seam t.sifted.frail t.sifted.seen [] 0,
         )
   ];
-  now = one_frail es t.frail t.settled t.propagated t.steps t.sets lt a.now;
-  before = λ k kl. one_frail es t.frail (step_at t.steps k).settled (step_at t.steps k).propagated (take k t.steps)
+  now = one_frail es t.sifted t.settled t.propagated t.steps t.sets lt a.now;
+  before = λ k kl. one_frail es t.sifted (step_at t.steps k).settled (step_at t.steps k).propagated (take k t.steps)
       (sets_at t k) lt (a.before k kl);
 }
 
-sifted_spread : (es : List EntryView) (t : TrailView) (f : FrontView) → IsTrail es t → AreSettled es (sifted t f)
-    → IsFrailer t.frail f → IsSpread es t (sifted t f) []
+sifted_spread : (es : List EntryView) (t : TrailView) (f : SiftedView) → IsTrail es t → AreSettled es (with_sifted t f)
+    → IsFrailer t.sifted f → IsSpread es t (with_sifted t f) []
 sifted_spread es t f trail settled more = record {
   trail = record {
     sound = record {
@@ -171,28 +171,28 @@ sifted_spread es t f trail settled more = record {
   spent = omega arith;
   assigned = refl;
   follows = λ x none agrees. agrees;
-  frail = more;
+  sifted = more;
 }
 
 abbrev pub IsSift : List EntryView → TrailView → TrailView → ℕ → List ℕ → Type 0
-IsSift es old t seen alive =
-    IsSpread es old (sifted t (record { seen = seen; alive = alive })) []
-    × (work es (sifted t (record { seen = seen; alive = alive })) < work es old)
+IsSift es old t seen frail =
+    IsSpread es old (with_sifted t (record { seen = seen; frail = frail })) []
+    × (work es (with_sifted t (record { seen = seen; frail = frail })) < work es old)
 
-pub sift_still : (es : List EntryView) (t : TrailView) (seen : ℕ) → IsTrail es t → t.frail.seen < length es
-    → seen ≡ t.frail.seen + 1 → IsStill t.sets (terms_of es t.frail.seen) → IsSift es t t seen t.frail.alive
-sift_still es t seen trail lt next still = subst (λ n. IsSift es t t n t.frail.alive) (sym next) (
-  sifted_spread es t (with_still t.frail) trail (settled_still es t trail.sound lt still trail.settled)
-      ([], sym (append-nil t.frail.alive)),
+pub sift_still : (es : List EntryView) (t : TrailView) (seen : ℕ) → IsTrail es t → t.sifted.seen < length es
+    → seen ≡ t.sifted.seen + 1 → IsStill t.sets (terms_of es t.sifted.seen) → IsSift es t t seen t.sifted.frail
+sift_still es t seen trail lt next still = subst (λ n. IsSift es t t n t.sifted.frail) (sym next) (
+  sifted_spread es t (with_still t.sifted) trail (settled_still es t trail.sound lt still trail.settled)
+      ([], sym (append-nil t.sifted.frail)),
   omega (arith, lt),
 )
 
-pub sift_frail : (es : List EntryView) (t : TrailView) (seen : ℕ) (alive : List ℕ) → IsTrail es t
-    → t.frail.seen < length es → seen ≡ t.frail.seen + 1 → alive ≡ t.frail.alive ++ t.frail.seen ∷ []
-    → IsSift es t t seen alive
-sift_frail es t seen alive trail lt next pushed = subst (λ n. IsSift es t t n alive) (sym next)
-    (subst (IsSift es t t (t.frail.seen + 1)) (sym pushed) (
-      sifted_spread es t (with_frail t.frail) trail (settled_frail es t lt trail.settled) (t.frail.seen ∷ [], refl),
-      (let back = trail.settled.now.back in
-          omega (arith, lt, back, length-append t.frail.alive (t.frail.seen ∷ []))),
+pub sift_frail : (es : List EntryView) (t : TrailView) (seen : ℕ) (frail : List ℕ) → IsTrail es t
+    → t.sifted.seen < length es → seen ≡ t.sifted.seen + 1 → frail ≡ t.sifted.frail ++ t.sifted.seen ∷ []
+    → IsSift es t t seen frail
+sift_frail es t seen frail trail lt next pushed = subst (λ n. IsSift es t t n frail) (sym next)
+    (subst (IsSift es t t (t.sifted.seen + 1)) (sym pushed) (
+      sifted_spread es t (with_frail t.sifted) trail (settled_frail es t lt trail.settled) (t.sifted.seen ∷ [], refl),
+      (let few = trail.settled.now.settled_few in
+          omega (arith, lt, few, length-append t.sifted.frail (t.sifted.seen ∷ []))),
     ))

@@ -104,6 +104,7 @@ pub fn resolve_keeping<F: Folder>(
     let _ = source.as_str();
     let inputs = read_inputs(alloc, &request, folder)?;
     let reply = reply_to(alloc, old, &inputs)?;
+    // Copied, for the index is handed over whole.
     let skips = copied(alloc, inputs.catalogue.skips())?;
     Ok((with_skips(reply, skips), inputs.catalogue))
 }

@@ -110,10 +110,10 @@ up_to t k = record {
   level =
       level_after t.steps k;
   assigned = t.assigned;
+  sifted = t.sifted;
   settled = t.settled;
   propagated = t.propagated;
   fronts = t.fronts;
-  frail = t.frail;
 }
 
 abbrev pub EachFalls : ℕ → TrailView → Type 0

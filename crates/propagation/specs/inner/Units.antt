@@ -8,7 +8,7 @@ use Rattle.terms.specs.declared.term.Relation.{Relation}
 use Rattle.terms.specs.declared.term.Relation.TheVariants.{Satisfied, Contradicted, Open}
 use Rattle.incompatibilities.specs.Incompatibilities.{IsIncompatibility, LiesIn, Terms, states_at}
 use Rattle.incompatibilities.specs.Stores.{EntryView, terms_of}
-use Rattle.propagation.specs.Trails.{FrontView, StepView, TrailView, set_of, space_of, step_at, total}
+use Rattle.propagation.specs.Trails.{FrontView, SiftedView, StepView, TrailView, set_of, space_of, step_at, total}
 use Rattle.propagation.specs.Satisfaction.{IsOneOpen, IsQuiet, Sat, is_within}
 use Rattle.propagation.specs.inner.Parts.{IsPut}
 use Rattle.propagation.specs.Promises.{NoneDecided, Follows, IsLonger, IsTrail, Rests, IsProgress, counted}
@@ -78,9 +78,9 @@ abbrev pub AreAt : ℕ → List StepView → Type 0
 AreAt n [] = Unit {0}
 AreAt n (s ∷ ss) = (s.level ≡ n) × AreAt n ss
 
--- frail entries come at the end
-abbrev pub IsFrailer : FrontView → FrontView → Type 0
-IsFrailer old new = (more : List ℕ) × (new.alive ≡ old.alive ++ more)
+-- frail entries were added at the end of their list
+abbrev pub IsFrailer : SiftedView → SiftedView → Type 0
+IsFrailer old new = (more : List ℕ) × (new.frail ≡ old.frail ++ more)
 
 -- assignments that entries of a store forced, at one level
 pub record IsSpread (es : List EntryView) (old new : TrailView) (added : List StepView) : Type 0 where
@@ -92,13 +92,13 @@ pub record IsSpread (es : List EntryView) (old new : TrailView) (added : List St
   pub spent : total new.sets + length added ≤ total old.sets
   pub assigned : new.assigned ≡ counted old.assigned (length added)
   pub follows : Follows es old.sets new.sets
-  pub frail : IsFrailer old.frail new.frail
+  pub sifted : IsFrailer old.sifted new.sifted
 
 -- how much is left to look at: twice the states that are left, the vertices that wait, the frail entries that are not
 -- settled, and twice the entries that are new, since one of these may become a frail one
 abbrev pub work : List EntryView → TrailView → ℕ
-work es t = total t.sets + total t.sets + (length t.steps - t.propagated) + (length t.frail.alive - t.settled)
-    + (length es - t.frail.seen) + (length es - t.frail.seen)
+work es t = total t.sets + total t.sets + (length t.steps - t.propagated) + (length t.sifted.frail - t.settled)
+    + (length es - t.sifted.seen) + (length es - t.sifted.seen)
 
 -- the vertex of the first place that was not propagated has a later place
 pub record HasLater (t : TrailView) : Type 0 where
@@ -122,7 +122,7 @@ pub record LooksWith (es : List EntryView) (old new : TrailView) (added : List S
   pub spread : IsSpread es old new added
   pub settled : new.settled ≡ old.settled
   pub propagated : new.propagated ≡ old.propagated
-  pub frail : new.frail ≡ old.frail
+  pub sifted : new.sifted ≡ old.sifted
   pub keeps : (w i : ℕ) → w ≤ length old.steps → Rests es old.sets (drop w old.steps) i
       → Rests es new.sets (drop w new.steps) i
   pub ends : Ends

@@ -13,5 +13,5 @@ returns-in-Some g c =
     let t = trail_view g.S.States.tests c.args.self.now in
     let ts = terms_view g.S.States.tests c.args.terms.now in
     subst (λ b. OnTrue b (IsStill t.sets (states_at ts))) (sym c.is_some.ensures)
-    (still_if t.sets t ts c.in-Some.place c.last_left-in-Some.result c.requires (rw length-map c.in-Some.ensures.0)
-    c.in-Some.ensures.1 c.last_left-in-Some.ensures)
+    (still_if t.sets t ts c.in-Some.place c.last_unsatisfied-in-Some.result c.requires (rw length-map c.in-Some.ensures.0)
+    c.in-Some.ensures.1 c.last_unsatisfied-in-Some.ensures)

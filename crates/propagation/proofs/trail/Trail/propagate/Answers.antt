@@ -15,14 +15,14 @@ returns-in-Err-clause-kept g c =
     let up = c.spread.ensures.spread in
     let down = c.shrink.ensures.longer in
     let count : c.len-places.result ≡ length (view c.args.self.now).steps = rw length-map (search rules) in
-    let old = (view c.args.self.now).frail.alive in
+    let old = (view c.args.self.now).sifted.frail in
     let frail : length old ≡ c.len-frail.result = search rules in
-    let alive : (view c.shrink.new.self).frail.alive ≡ old ++ up.1.frail.0 =
-    ap (λ f. f.alive) c.shrink.ensures.frail ∙ up.1.frail.1 in
+    let more : (view c.shrink.new.self).sifted.frail ≡ old ++ up.1.sifted.0 =
+    ap (λ f. f.frail) c.shrink.ensures.sifted ∙ up.1.sifted.1 in
     restored (view c.args.self.now) (view c.spread.new.self) (view c.shrink.new.self) up.0 down.0
     c.truncate.new.self.items up.1.longer down.1 (c.shrink.ensures.places ∙ count) (c.shrink.ensures.level ∙ up.1.level)
-    (c.truncate.ensures.items ∙ ap (take c.len-frail.result) alive ∙ ap (λ n. take n (old ++ up.1.frail.0)) (sym frail)
-    ∙ take-append_seam old up.1.frail.0)
+    (c.truncate.ensures.items ∙ ap (take c.len-frail.result) more ∙ ap (λ n. take n (old ++ up.1.sifted.0)) (sym frail)
+    ∙ take-append_seam old up.1.sifted.0)
 
 pub returns-in-Err-clause-trail : goal.returns-in-Err-clause-trail
 returns-in-Err-clause-trail g c = subst (IsTrail (entries_view g.S.States.tests c.args.store.now))

@@ -33,5 +33,5 @@ back-preserved g c =
       );
       places = search (rules, one);
       level = off.1.level_is ∙ c.back.invariant.level;
-      frail = off.1.frail ∙ c.back.invariant.frail;
+      sifted = off.1.sifted ∙ c.back.invariant.sifted;
     }

@@ -8,7 +8,7 @@ invariant-back g l = let tests = g.S.States.tests in record {
   back : (gone : List StepView) × IsLonger (trail_view tests l.self) (trail_view tests l.fn.self) gone;
   places : l.places ≤ length l.self.steps.items;
   level : l.self.level ≡ l.fn.self.level;
-  frail : (trail_view tests l.self).frail ≡ (trail_view tests l.fn.self).frail;
+  sifted : (trail_view tests l.self).sifted ≡ (trail_view tests l.fn.self).sifted;
 }
 
 abbrev pub decreases-back : goal.decreases-back

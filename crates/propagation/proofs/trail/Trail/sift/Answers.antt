@@ -23,7 +23,7 @@ is_still-requires g c =
 
 -- what the trail is after either branch
 abbrev After : {S : Type 0} → (S → Members) → List EntryView → TrailView → ℕ → Trail S → Type 0
-After tests es t seen s = IsSift es t (trail_view tests s) seen s.frail.alive.items
+After tests es t seen s = IsSift es t (trail_view tests s) seen s.sifted.frail.items
 
 pub returns-clause-sifted : goal.returns-clause-sifted
 returns-clause-sifted g c =
@@ -32,7 +32,7 @@ returns-clause-sifted g c =
     let t = trail_view tests c.args.self.now in
     elim c.if-not-is_still.branch [
       | then-not-is_still+in_ok-push w ↦
-          let pushed : w.push.new.self.items ≡ t.frail.alive ++ t.frail.seen ∷ [] = search rules in
+          let pushed : w.push.new.self.items ≡ t.sifted.frail ++ t.sifted.seen ∷ [] = search rules in
           subst (After tests es t c.args.seen) (sym w.self-is)
           (sift_frail es t c.args.seen w.push.new.self.items c.requires.trail c.requires.new c.requires.next pushed)
       | else-not-is_still w ↦
