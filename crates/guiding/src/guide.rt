@@ -400,7 +400,8 @@ impl<'a, S: States + Drop> Guide<S> for Encoded<'a, S> {
                     vertices,
                     wanted,
                 )?;
-                let lead = self.leads.next(&self.asked);
+                let is_hard = self.order.is_hard();
+                let lead = self.leads.next(&self.asked, is_hard);
                 match self.ahead(trail, lead)? {
                     Some((vertex, state)) => {
                         let before = store.len();
@@ -436,7 +437,6 @@ impl<'a, S: States + Drop> Guide<S> for Encoded<'a, S> {
         learned: Id,
     ) -> Result<(), AllocError> {
         self.order.jumped(trail.level(), store, conflict, learned)?;
-        self.leads.allow_more(self.order.is_hard());
         // What was seen at places that were cut may stand otherwise when they are filled again.
         self.order.cut(trail.places())?;
         if trail.places() < self.seen {

@@ -1,9 +1,9 @@
 //! What is asked for before a version is decided for, so that a version that it rules out opens no level: the vertices
-//! with one state beside absent that the version needs, and, once the search is a hard one, by and by each pair.
+//! with one state beside absent that the version needs, and, once the search is a hard one, each pair.
 //!
 //! A version is ruled out by what is left of something that it needs only where its needs are in the store. So a large
 //! graph is refuted in two fifths of the steps with all instances there (docs/DECISIONS.md). Most searches end long
-//! before they would pay for these; in a hard one each conflict pays for some.
+//! before they would pay for these.
 
 ghost use Rattle.std.specs.Prelude.{IfSome, map};
 ghost use Rattle.guiding.specs.inner.Guides.{IsUnasked};
@@ -13,17 +13,12 @@ use std::alloc::{AllocError, Global};
 use terms::Term;
 use version_sets::States;
 
-/// So many pairs are asked for after each conflict of a hard search.
-const MORE: usize = 300;
-
 /// Pairs that may be asked for ahead. They only help to rule out a version soon: nothing rests on which they are.
 #[derive(Drop)]
 pub(crate) struct Leads {
     /// The vertices that a version needs.
     vertices: Vec<usize>,
-    /// So many of all pairs may be asked for now.
-    more: usize,
-    /// The last one of all that was: those before it were asked for.
+    /// The last one of all pairs that was asked for so: those before it were asked for.
     last: (usize, u32),
 }
 
@@ -32,15 +27,7 @@ impl Leads {
     pub(crate) fn new(alloc: Global) -> Leads {
         Leads {
             vertices: Vec::new(alloc),
-            more: 0,
             last: (0, 0),
-        }
-    }
-
-    /// After a conflict: lets some more of all pairs be asked for, if the search is hard.
-    pub(crate) fn allow_more(&mut self, is_hard: bool) {
-        if is_hard {
-            self.more = self.more.saturating_add(MORE);
         }
     }
 
@@ -68,9 +55,9 @@ impl Leads {
         Ok(())
     }
 
-    /// One of the vertices with the one state that it has beside absent, if that wasn't asked for; after these, if it
-    /// may be asked for, the next of all pairs.
-    pub(crate) fn next<S: States>(&mut self, asked: &[S]) -> Option<(usize, u32)>
+    /// One of the vertices with the one state that it has beside absent, if that wasn't asked for; after these, in a
+    /// hard search, the next of all pairs.
+    pub(crate) fn next<S: States>(&mut self, asked: &[S], is_hard: bool) -> Option<(usize, u32)>
         ensures { IfSome result (λ d. IsUnasked (map S.tests asked.now) d.0 d.1) }
     {
         'vertices: while let Some(vertex) = self.vertices.pop() {
@@ -78,11 +65,11 @@ impl Leads {
                 return Some((vertex, state));
             }
         }
-        if self.more == 0 {
-            return None;
+        if is_hard {
+            self.next_of_all(asked)
+        } else {
+            None
         }
-        self.more -= 1;
-        self.next_of_all(asked)
     }
 
     /// The first pair that wasn't asked for, from where the last one was found.

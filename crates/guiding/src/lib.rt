@@ -11,9 +11,8 @@
 //! most, the first by number (`order.rt`). It takes its state in the valid selection that is followed, if one is; else
 //! that of the most preferred candidate that is left (`preferring.rt`), or of a vertex without candidates the greatest.
 //! The instances of that pair, and those of the vertices with one state beside `absent` that it needs, are asked for
-//! before (`leads.rt`), so that a version which they leave out at once opens no level; and by and by those of every pair
-//! once the search is a hard one. The contract asks only for a state that is left, so another preference changes no
-//! proof.
+//! before (`leads.rt`), so that a version which they leave out at once opens no level; and those of every pair once the
+//! search is a hard one. The contract asks only for a state that is left, so another preference changes no proof.
 //!
 //! Where an owner has several dependencies on one package, one that leads to a class may overtake another in any of its
 //! classes. So a pair of such a one is begun with the instances that name no other (`begin_with`). The rest comes once
