@@ -214,7 +214,7 @@ module _ (q : Problem) (LeadsTo : Owner → ℕ → Dependency → Owner → Typ
       (brings_at nodes) (λ n. n ≡ 0) (λ n. starts_at nodes n ≡ true) (root_asks (brings_at nodes 0).features)
       (λ n i d t. target_at nodes n i ≡ Some t) (λ o n. At n o) to_places x h
 
-  here_far : (n : ℕ) (o : Owner) → At n o → Near (here n) → Far (here o)
+  pub here_far : (n : ℕ) (o : Owner) → At n o → Near (here n) → Far (here o)
   here_far n o at h = let (m, r, p) = far_of (here n) h in subst (λ x. Far (here x)) (one_owner n m o r at) p
 
   pub enabled_far : (n i : ℕ) (o : Owner) → At n o → Near (enabled n i) → Far (enabled o i)

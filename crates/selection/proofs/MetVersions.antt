@@ -248,6 +248,21 @@ no_version index s vs e none there =
     by None e h = true≢false (sym (sym (ap is_some e) ∙ there))
     by (Some r) e h = none-some r.version (sym h)
 
+-- the owner that a version is that is met
+pub owner_is : (index : CatalogueView) (s : MetVersion) (vs : List Parts) (v : Parts) → vs
+    ≡ map (λ (r : Record). r.version) (candidates_at index s.name) → slice_get vs s.place ≡ Some v
+    → met_owner index s ≡ version_of s.name v
+owner_is index s vs v e got =
+    ap (owner_if s.name) (candidate_get index s.name s.place)
+    ∙ by (slice_get (candidates_at index s.name) s.place)
+    (sym (slice_get-map (λ (r : Record). r.version) (candidates_at index s.name) s.place)
+    ∙ ap (λ l. slice_get l s.place) (sym e) ∙ got)
+  where
+    by : (o : Option Record) → option_map (λ (r : Record). r.version) o ≡ Some v
+        → owner_if s.name (option_map as_candidate o) ≡ version_of s.name v
+    by None h = absurd (none-some v h)
+    by (Some r) h = ap (version_of s.name) (same_Some r.version v h)
+
 abbrev package_with : List ℕ → Parts → Option (List ℕ) → Option (List ℕ) → List ℕ → Package
 package_with name version source checksum list =
     record { name = name; version = version; source = source; checksum = checksum; list = list }

@@ -5,3 +5,4 @@ pub mod Contents
 pub mod Met
 pub mod Followed
 pub mod Rounds
+pub mod Taking

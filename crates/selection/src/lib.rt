@@ -13,7 +13,8 @@
 //! lack a candidate: then there is no walk to give, and the search decides. What is hard is that which dependencies are
 //! enabled depends on the picks, and the other way round. So versions are met in rounds (`rounds.rt`): each follows the
 //! picks of the dependencies that packages need, and of those that the facts of the round before found to be enabled,
-//! each version once (`meeting.rt`), and finds the facts over these. Where each enabled dependency was followed, those
+//! each version once (`meeting.rt`), and finds the facts over these. Where two that are here are of one class, no later
+//! round takes one away, and there is no walk to give (`taking.rt`). Where each enabled dependency was followed, those
 //! that weren't make no difference (`enabled_dependencies_are_enough`). What comes of it is put to `verify`, and so is
 //! right whatever the walk ignored.
 //!
@@ -53,6 +54,7 @@ mod reached;
 mod roots;
 mod rounds;
 mod summaries;
+mod taking;
 mod targets;
 mod verdict;
 mod verifying;

@@ -11,6 +11,7 @@ ghost use Rattle.selection.specs.inner.Rounds.{Reaches};
 
 use crate::meeting::meet;
 use crate::met::MetVersion;
+use crate::taking::takes_twice;
 use catalogue::Catalogue;
 use facts::{Facts, Node, facts_of};
 use features::PackageName;
@@ -40,7 +41,8 @@ struct Round<'a> {
     facts: Facts,
 }
 
-/// The versions that the preferred walk reaches, and some more; none where an enabled dependency has no pick.
+/// The versions that the preferred walk reaches, and some more; none where an enabled dependency has no pick, or where
+/// it is seen early that two versions are of one class.
 ///
 /// Each round follows what the one before found to be enabled, until each enabled dependency has its target. Where
 /// nothing more was enabled, the rounds would go on as they are.
@@ -65,6 +67,10 @@ pub(crate) fn reach<'a>(
             asked.as_slice(),
         )?;
         let Round { nodes, facts } = found;
+        // Later rounds only add to these.
+        if takes_twice(alloc, catalogue, versions.as_slice(), facts.here.as_slice())? {
+            return Ok(None);
+        }
         if is_complete(nodes.as_slice(), facts.enabled.as_slice()) {
             return Ok(Some(Reached {
                 versions,

@@ -2,6 +2,7 @@
 use Rattle.std.specs.Prelude.{◌≡◌, ℕ, List, Bool, map, length, Option, Some, None}
 use Rattle.model.specs.Content.{Candidate, Content, Problem}
 use Rattle.model.specs.Vertices.{Owner}
+use Rattle.model.specs.Selected.{IsPreferred}
 use Rattle.model.specs.Walk.{IsComplete, IsWalk}
 use Rattle.facts.specs.inner.Graphs.{NodeView, node_views}
 use Rattle.catalogue.specs.Stores.{CatalogueView}
@@ -23,7 +24,7 @@ module _ (q : Problem) (index : CatalogueView) where
     pub enough : AreEnough q (preferred_in index) (owners_of index r.versions.keys) (node_views r.nodes.items)
         r.facts.here.items (map (λ v. v.items) r.facts.enabled.items)
 
-  -- there are such exactly where the walk is complete
+  -- there are such, but where no content is the walk, complete and a valid selection
   abbrev pub Reaches : Option Reached → Type 0
   Reaches (Some r) = IsReached r
-  Reaches None = IsComplete q (preferred_in index) → ⊥
+  Reaches None = (content : Content) → IsPreferred q (preferred_in index) content → ⊥

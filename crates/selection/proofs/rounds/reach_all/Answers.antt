@@ -7,7 +7,7 @@ use Rattle.selection.proofs.Completeness.{all_met_says, are_enough, if_all_met, 
 use Rattle.selection.proofs.rounds.reach_all.Goals as goal
 
 pub returns-then-not-is_complete : goal.returns-then-not-is_complete
-returns-then-not-is_complete c whole =
+returns-then-not-is_complete c content it =
     let index = c.args.catalogue.now in
     let nodes = c.in_ok-found.found.nodes.items in
     let enabled = c.in_ok-found.found.facts.enabled.items in
@@ -17,7 +17,7 @@ returns-then-not-is_complete c whole =
     let all = met_if_complete (problem_in c.args.manifest.now index) (preferred_in index) []
     (owners_of index c.follow.new.versions.keys) (node_views nodes) refl
     c.in_ok-found.found.facts.here.items (map (λ v. v.items) enabled) c.in_ok-found.ensures.flags
-    c.in_ok-found.ensures.met whole in
+    c.in_ok-found.ensures.met it.complete in
     true≢false (sym (if_all_met nodes enabled all) ∙ sym test ∙ lacks)
 
 pub returns : goal.returns
