@@ -13,6 +13,7 @@ use crate::candidate::{Candidate, Rank};
 use crate::candidates::Candidates;
 use crate::checksum::Checksum;
 use crate::old_lock::is_locked;
+use crate::places::by_precedence;
 use crate::source::Source;
 use classes::RustVersion;
 use features::PackageName;
@@ -44,7 +45,7 @@ pub(crate) fn candidates_of(
         (λ c. candidates_view c ≡ ranked_among (is_locked (packages_of_old run.now.old) run.now.source.now name.now)
         (option_map rust_version_view run.now.rust_version) (records_view records.items)) }
 {
-    records.sort_by(|a, b| a.version.cmp_precedence(&b.version))?;
+    records.sort_by(|a, b| by_precedence(&a.version, &b.version))?;
     kept(alloc, name, records, run)
 }
 
