@@ -167,34 +167,41 @@ impl<'a> Noted<'a> {
         }
     }
 
-    /// What is noted beside a pair, if it is one of a dependency and a class.
-    pub(crate) fn beside(
-        &self,
+    /// Notes a pair, if it is one of a dependency and a class, and gives what was noted beside it before.
+    pub(crate) fn note(
+        &mut self,
         alloc: Global,
         known: &KnownProblem<'a>,
         vertex: VertexRef<'a>,
         state: StateRef<'a>,
     ) -> Result<Vec<(usize, Class)>, AllocError>
-        ensures { IfOk result (λ v. AreBeside (problem known.now) self.now
+        ensures kept { KeepsNoted self.old self.new }
+        ensures noted { OnOk result
+            (IsNoted (problem known.now) self.new (vertex_ref_view vertex.entry, state_ref_view state.entry)) }
+        ensures beside { IfOk result (λ v. AreBeside (problem known.now) self.old
             (vertex_ref_view vertex.entry, state_ref_view state.entry) (noted_views v.items)) }
     {
         match vertex {
             VertexRef::Dependency(owner, number) => {
-                self.beside_dependency(alloc, known, owner, number, state)
+                self.note_dependency(alloc, known, owner, number, state)
             }
             _ => Ok(Vec::new(alloc)),
         }
     }
 
-    fn beside_dependency(
-        &self,
+    fn note_dependency(
+        &mut self,
         alloc: Global,
         known: &KnownProblem<'a>,
         owner: OwnerRef<'a>,
         number: usize,
         state: StateRef<'a>,
     ) -> Result<Vec<(usize, Class)>, AllocError>
-        ensures { IfOk result (λ v. AreBeside (problem known.now) self.now
+        ensures kept { KeepsNoted self.old self.new }
+        ensures noted { OnOk result
+            (IsNoted (problem known.now) self.new
+            (dep (owner_ref_view owner.entry) number, state_ref_view state.entry)) }
+        ensures beside { IfOk result (λ v. AreBeside (problem known.now) self.old
             (dep (owner_ref_view owner.entry) number, state_ref_view state.entry) (noted_views v.items)) }
     {
         let StateRef::Class(class) = state else {
@@ -206,76 +213,8 @@ impl<'a> Noted<'a> {
             class,
         };
         match dependency_at(known, &owner, number) {
-            Some(dependency) => self.beside_lead(alloc, known, lead, dependency),
-            None => Ok(Vec::new(alloc)),
-        }
-    }
-
-    fn beside_lead(
-        &self,
-        alloc: Global,
-        known: &KnownProblem<'a>,
-        lead: Lead<'a>,
-        dependency: &'a DependencyParts,
-    ) -> Result<Vec<(usize, Class)>, AllocError>
-        ensures { IfOk result (λ v. HasOther (problem known.now) (owner_ref_view lead.entry.owner) lead.entry.number
-            (dependency_view dependency.entry.now) → noted_views v.items ≡ noted_beside (problem known.now) self.now
-            (owner_ref_view lead.entry.owner) (dependency_view dependency.entry.now) (class_view lead.entry.class)) }
-    {
-        if !has_other(known, lead, dependency) {
-            return Ok(Vec::new(alloc));
-        }
-        let name = &dependency.real_name;
-        let mut found = Vec::from_slice(alloc, self.lower.those(lead.owner, name, lead.class))?;
-        let classes = classes_of(alloc, known, dependency)?;
-        self.here.put_above(&mut found, lead.owner, name, lead.class, classes.as_slice())?;
-        Ok(found)
-    }
-
-    /// Notes a pair, if it is one of a dependency and a class.
-    pub(crate) fn note(
-        &mut self,
-        alloc: Global,
-        known: &KnownProblem<'a>,
-        vertex: VertexRef<'a>,
-        state: StateRef<'a>,
-    ) -> Result<(), AllocError>
-        ensures kept { KeepsNoted self.old self.new }
-        ensures noted { OnOk result
-            (IsNoted (problem known.now) self.new (vertex_ref_view vertex.entry, state_ref_view state.entry)) }
-    {
-        match vertex {
-            VertexRef::Dependency(owner, number) => {
-                self.note_dependency(alloc, known, owner, number, state)
-            }
-            _ => Ok(()),
-        }
-    }
-
-    fn note_dependency(
-        &mut self,
-        alloc: Global,
-        known: &KnownProblem<'a>,
-        owner: OwnerRef<'a>,
-        number: usize,
-        state: StateRef<'a>,
-    ) -> Result<(), AllocError>
-        ensures kept { KeepsNoted self.old self.new }
-        ensures noted { OnOk result
-            (IsNoted (problem known.now) self.new
-            (dep (owner_ref_view owner.entry) number, state_ref_view state.entry)) }
-    {
-        let StateRef::Class(class) = state else {
-            return Ok(());
-        };
-        let lead = Lead {
-            owner,
-            number,
-            class,
-        };
-        match dependency_at(known, &owner, number) {
             Some(dependency) => self.note_lead(alloc, known, lead, dependency),
-            None => Ok(()),
+            None => Ok(Vec::new(alloc)),
         }
     }
 
@@ -285,20 +224,28 @@ impl<'a> Noted<'a> {
         known: &KnownProblem<'a>,
         lead: Lead<'a>,
         dependency: &'a DependencyParts,
-    ) -> Result<(), AllocError>
+    ) -> Result<Vec<(usize, Class)>, AllocError>
         ensures kept { KeepsNoted self.old self.new }
         ensures noted { OnOk result (HasOther (problem known.now) (owner_ref_view lead.entry.owner) lead.entry.number
             (dependency_view dependency.entry.now) → IsNotedFor (problem known.now) self.new
             (owner_ref_view lead.entry.owner) lead.entry.number (dependency_view dependency.entry.now)
             (class_view lead.entry.class)) }
+        ensures beside { IfOk result (λ v. HasOther (problem known.now) (owner_ref_view lead.entry.owner)
+            lead.entry.number (dependency_view dependency.entry.now) → noted_views v.items
+            ≡ noted_beside (problem known.now) self.old (owner_ref_view lead.entry.owner)
+            (dependency_view dependency.entry.now) (class_view lead.entry.class)) }
     {
         if !has_other(known, lead, dependency) {
-            return Ok(());
+            return Ok(Vec::new(alloc));
         }
         let name = &dependency.real_name;
-        self.here.list(alloc, lead, name, lead.class)?;
         let classes = classes_of(alloc, known, dependency)?;
-        self.lower.list_above(alloc, lead, name, classes.as_slice())
+        let mut found = Vec::from_slice(alloc, self.lower.those(lead.owner, name, lead.class))?;
+        self.here.put_above(&mut found, lead.owner, name, lead.class, classes.as_slice())?;
+        self.here.list(alloc, lead, name, lead.class)?;
+        self.lower
+            .list_above(alloc, lead, name, classes.as_slice())?;
+        Ok(found)
     }
 }
 

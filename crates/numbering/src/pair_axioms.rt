@@ -135,9 +135,8 @@ fn next_axioms<'a, S: States + Drop>(
         ) (given_views S.tests xs.items)) }
 {
     let state = state_at(alloc, known, &vertex, number)?;
-    let those = noted.beside(alloc, known, vertex, state)?;
+    let those = noted.note(alloc, known, vertex, state)?;
     let causes = causes_asked(alloc, known, those.as_slice(), vertex, state)?;
-    noted.note(alloc, known, vertex, state)?;
     instances(alloc, known, table, causes.as_slice())
 }
 

@@ -39,7 +39,7 @@ returns-clause-given g c =
     let within = state_in q v c.args.number s c.requires.state c.in_ok-state.ensures in
     let listed = asked_causes q ps v s in
     let beside =
-    subst (λ l. AreBeside q old (v, s) (noted_views l)) (sym c.as_slice.ensures.value) c.in_ok-those.ensures in
+    subst (λ l. AreBeside q old (v, s) (noted_views l)) (sym c.as_slice.ensures.value) c.in_ok-those.ensures.beside in
     let cs = cause_views c.as_slice-2.result.now in
     let are : cs ≡ with_causes [] listed = ap cause_views c.as_slice-2.ensures.keys ∙ c.in_ok-causes.ensures in
     IfOk-weaker c.instances.result (λ xs. AreGiven q new cs (given_views g.S.States.tests xs.items))
@@ -60,4 +60,4 @@ returns-clause-noted g c =
     let q = problem c.args.known.now in
     let v = vertex_ref_view c.args.vertex in
     on_ok_always c.instances.result (subst (λ (r : State). IsNoted q c.note.new.self (v, r)) c.in_ok-state.ensures
-    c.in_ok-note.ensures.noted)
+    c.in_ok-those.ensures.noted)
