@@ -1,4 +1,3 @@
-pub mod Demands
 pub mod Meeting
 pub mod Spaces
 pub mod Universes

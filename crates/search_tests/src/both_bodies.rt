@@ -1,6 +1,5 @@
 //! The tests: all that is generic over the body, at each body, and both bodies beside each other.
 
-use crate::on_demand::come_on_demand;
 use crate::pigeons::four_to_seven;
 use crate::sets::{bodies_agree, sets};
 use crate::stores::stores;
@@ -19,8 +18,7 @@ fn algebra<S: States + Drop>(rt: &impl Abort, alloc: Global) -> Result<(), Alloc
 
 fn searches<S: States + Drop>(rt: &impl Abort, alloc: Global) -> Result<(), AllocError> {
     all_worked::<S>(rt, alloc)?;
-    four_to_seven::<S>(rt, alloc)?;
-    come_on_demand::<S>(rt, alloc)
+    four_to_seven::<S>(rt, alloc)
 }
 
 #[test]

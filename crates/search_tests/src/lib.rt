@@ -1,15 +1,11 @@
 //! Tests of the algebra under the search, of its trail and of the search itself, at both bodies of their sets. The
-//! search runs with two small guides: one whose axioms all stand in the store from the start, and one whose vertices
-//! and axioms come as they are asked for. Each function is proved before it runs; all are compiled for the tests alone,
-//! so that they are proved once.
+//! search runs with a small guide, whose axioms all stand in the store from the start; with the product's, whose
+//! vertices and axioms come as they are asked for, it runs in the sessions of `worked_cases`. Each function is proved
+//! before it runs; all are compiled for the tests alone, so that they are proved once.
 #![tactic(auto)]
 
 #[cfg(test)]
 mod both_bodies;
-#[cfg(test)]
-mod deciding;
-#[cfg(test)]
-mod demanding;
 #[cfg(test)]
 mod drawing;
 #[cfg(test)]
@@ -18,8 +14,6 @@ mod generated;
 mod made_stores;
 #[cfg(test)]
 mod made_terms;
-#[cfg(test)]
-mod on_demand;
 #[cfg(test)]
 mod pigeons;
 #[cfg(test)]

@@ -1,7 +1,8 @@
 //! A search whose axioms all stand in the store from the start, with a preferred state for each vertex; it keeps what
 //! the search tells of its conflicts.
 
-ghost use Rattle.search_tests.specs.inner.Universes.{AllDecided, AllLie, IsWithinAll, Prefers, Refutes, Selects};
+ghost use Rattle.search_tests.specs.inner.Universes.{AllDecided, AllLie, IsOpen, IsWithinAll, Prefers, Refutes};
+ghost use Rattle.search_tests.specs.inner.Universes.{Selects};
 ghost use Rattle.search_tests.specs.inner.Meeting.{AreSmall};
 ghost use Rattle.incompatibilities.specs.Stores.{entries_view};
 ghost use Rattle.propagation.specs.Trails.{trail_view};
@@ -10,10 +11,9 @@ ghost use Rattle.propagation.specs.Satisfaction.{BreaksNone};
 ghost use Rattle.guiding.specs.inner.Counting.{HasCounted};
 ghost use Rattle.incompatibilities.specs.inner.Counts.{combinations};
 ghost use Rattle.guiding.specs.inner.Following.{IsSelection};
-ghost use Rattle.std.specs.Prelude.{◌≡◌, ◌+◌, ◌<◌, ◌≤◌, IfOk, length, slice_index_or, true};
+ghost use Rattle.std.specs.Prelude.{◌≡◌, ◌+◌, ◌<◌, ◌≤◌, IfOk, MatchOption, length, slice_index_or, true};
 ghost use Rattle.version_sets.specs.Sets.{has, size};
 
-use crate::deciding::first_open;
 use guiding::{Found, Guide, least, search};
 use incompatibilities::{Id, Store};
 use propagation::Trail;
@@ -40,6 +40,20 @@ pub struct Preferring {
     pub states: Vec<u32>,
     /// What was learned, in order.
     pub lessons: Vec<Lesson>,
+}
+
+/// The first vertex that has more than one state left; there are `vertices` of them.
+fn first_open<S: States + Drop>(trail: &Trail<S>, vertices: usize) -> Option<usize>
+    requires { length (trail_view S.tests trail.now).sets ≡ vertices }
+    ensures { MatchOption result (AllDecided (trail_view S.tests trail.now))
+        (λ v. IsOpen (trail_view S.tests trail.now) v) }
+{
+    'vertices: for vertex in 0..vertices {
+        if trail.states(vertex).count() > 1 {
+            return Some(vertex);
+        }
+    }
+    None
 }
 
 impl Preferring {
