@@ -8,15 +8,14 @@ use Rattle.std.specs.Map.{lookup}
 use Rattle.std.specs.declared.alloc.Global.{Global}
 use Rattle.std.proofs.lemmas.Option.{same_Some}
 use Rattle.semver.specs.Parse.{Held}
+use Rattle.classes.proofs.SameClass.{class_same}
 use Rattle.classes.specs.Classes.{class_view}
-use Rattle.classes.specs.contracts.class.ClassPartialEq.TheImpl as class_eq
 use Rattle.classes.specs.declared.class.Class as code
-use Rattle.classes.specs.declared.class.Class.TheVariants as class
 use Rattle.features.specs.Views.{requirement_view}
 use Rattle.model.specs.Content.{Problem}
 use Rattle.model.specs.Selection.{Class}
 use Rattle.model.specs.Summary.{same_text}
-use Rattle.model.specs.Vertices.{State, same_class}
+use Rattle.model.specs.Vertices.{State}
 use Rattle.model.proofs.Same.{both, class-same, text-same}
 use Rattle.axioms.specs.inner.Keeping.{AreAll, AreClasses, AreKept, AreMatched, AreRight, Ask, ClassAsk, IsKept}
 use Rattle.axioms.specs.inner.Keeping.{AreHad, AreHadBy, AreLacking, AreReleases, AreReleasesIn, AreThose}
@@ -48,17 +47,6 @@ module _ {K V S : Type 0} (same : K → K → Bool) (Is : K → V → Type 0) wh
         → AreRight same Is after
     kept_after m after k v (Ok x) u e are one = more_kept m after k v are one u
     kept_after m after k v (Err x) u e are one = same_kept m after e are
-
-class_same : (a b : code.Class) → (class_eq.eq-value).it a b ≡ same_class (class_view a) (class_view b)
-class_same (class.Patch n) (class.Patch m) = refl
-class_same (class.Patch n) (class.Minor m) = refl
-class_same (class.Patch n) (class.Major m) = refl
-class_same (class.Minor n) (class.Patch m) = refl
-class_same (class.Minor n) (class.Minor m) = refl
-class_same (class.Minor n) (class.Major m) = refl
-class_same (class.Major n) (class.Patch m) = refl
-class_same (class.Major n) (class.Minor m) = refl
-class_same (class.Major n) (class.Major m) = refl
 
 -- equal keys are of one name and one requirement
 pub ask_alike : {A : Type 0} (found : List ℕ → List Held → A) (x y : Ask) → same_ask x y ≡ true

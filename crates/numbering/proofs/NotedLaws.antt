@@ -37,7 +37,7 @@ use Rattle.numbering.specs.declared.called.Numbered.{Numbered}
 use Rattle.numbering.specs.declared.noted.Listed.{Listed}
 use Rattle.numbering.specs.declared.noted.Noted.{Noted}
 use Rattle.numbering.proofs.ListLaws.{pushed, some_or}
-use Rattle.numbering.proofs.Same.{class_same}
+use Rattle.classes.proofs.SameClass.{class_same}
 
 abbrev Those : Type 0
 Those = Vec (ℕ × code.Class) Global

@@ -12,15 +12,11 @@ use Rattle.std.specs.Cmp.Lexicographic.{pointwise}
 use Rattle.semver.specs.declared.Version.{Version}
 use Rattle.semver.specs.Identifiers.{parts_of, pre_text, build_text}
 use Rattle.model.specs.Content.{same_version}
-use Rattle.classes.specs.declared.class.Class.{Class}
-use Rattle.classes.specs.declared.class.Class.TheVariants as class
 use Rattle.vertices.specs.declared.vertex.OwnerRef.{OwnerRef}
 use Rattle.vertices.specs.declared.vertex.VertexRef.{VertexRef}
-use Rattle.classes.specs.contracts.class.ClassPartialEq.TheImpl as class_eq
 use Rattle.vertices.specs.contracts.same.OwnerRefPartialEq.TheImpl as owner_eq
 use Rattle.vertices.specs.contracts.same.VertexRefPartialEq.TheImpl as vertex_eq
-use Rattle.model.specs.Vertices.{same_class, same_owner, same_vertex}
-use Rattle.classes.specs.Classes.{class_view}
+use Rattle.model.specs.Vertices.{same_owner, same_vertex}
 use Rattle.vertices.specs.inner.RefViews.{owner_ref_view, vertex_ref_view}
 
 five : (a b c d e : Bool) → (a && (b && (c && (d && e)))) ≡ ((((a && b) && c) && d) && e)
@@ -36,17 +32,6 @@ pub version_same : (v w : Version) → (nat_eq v.major w.major && (nat_eq v.mino
     (parts_of w)
 version_same v w = five (nat_eq v.major w.major) (nat_eq v.minor w.minor) (nat_eq v.patch w.patch)
     (pointwise nat_eq (pre_text v.pre) (pre_text w.pre)) (pointwise nat_eq (build_text v.build) (build_text w.build))
-
-pub class_same : (a b : Class) → (class_eq.eq-value).it a b ≡ same_class (class_view a) (class_view b)
-class_same (class.Patch n) (class.Patch m) = refl
-class_same (class.Patch n) (class.Minor m) = refl
-class_same (class.Patch n) (class.Major m) = refl
-class_same (class.Minor n) (class.Patch m) = refl
-class_same (class.Minor n) (class.Minor m) = refl
-class_same (class.Minor n) (class.Major m) = refl
-class_same (class.Major n) (class.Patch m) = refl
-class_same (class.Major n) (class.Minor m) = refl
-class_same (class.Major n) (class.Major m) = refl
 
 pub owner_same : (o p : OwnerRef) → (owner_eq.eq-value).it o p ≡ same_owner (owner_ref_view o) (owner_ref_view p)
 owner_same o p = refl

@@ -21,5 +21,5 @@ pub mod Reaching
 pub mod Rows
 pub mod RunSearch
 pub mod Seconds
-pub mod Twice
 pub mod TargetSearch
+pub mod Twice

@@ -5,15 +5,14 @@ use Rattle.std.specs.List.{list_any}
 use Rattle.std.proofs.lemmas.Option.{same_Some}
 use Rattle.indexmap.specs.IndexSet.{insert_key}
 use Rattle.semver.specs.Parse.{Parts}
+use Rattle.classes.proofs.SameClass.{class_same}
 use Rattle.classes.specs.Classes.{class_view}
 use Rattle.classes.specs.contracts.class.ClassPartialEq.TheImpl as class_eq
-use Rattle.classes.specs.declared.class.Class.{Class}
-use Rattle.classes.specs.declared.class.Class.TheVariants as class
 use Rattle.model.specs.Content.{Candidate, Content, Package, Problem, is_root}
 use Rattle.model.specs.Selected.{IsPreferred}
 use Rattle.model.specs.Selection.{class_of, here}
 use Rattle.model.specs.Summary.{Dependency, same_text}
-use Rattle.model.specs.Vertices.{Owner, same_class, the_root, version_of}
+use Rattle.model.specs.Vertices.{Owner, the_root, version_of}
 use Rattle.model.specs.Walk.{IsReachedFact, Picks, name_of}
 use Rattle.model.proofs.Inner.{name_in, version_in}
 use Rattle.model.proofs.Lists.{in_cons, in_first, in_none, in_rest, pairs_get}
@@ -38,17 +37,6 @@ same_taken s t = same_text s.name t.name && (class_eq.eq-value).it s.class t.cla
 
 root_apart : (n : List ℕ) (v : Parts) → the_root ≡ version_of n v → ⊥
 root_apart n v e = cc
-
-class_same : (a b : Class) → (class_eq.eq-value).it a b ≡ same_class (class_view a) (class_view b)
-class_same (class.Patch n) (class.Patch m) = refl
-class_same (class.Patch n) (class.Minor m) = refl
-class_same (class.Patch n) (class.Major m) = refl
-class_same (class.Minor n) (class.Patch m) = refl
-class_same (class.Minor n) (class.Minor m) = refl
-class_same (class.Minor n) (class.Major m) = refl
-class_same (class.Major n) (class.Patch m) = refl
-class_same (class.Major n) (class.Minor m) = refl
-class_same (class.Major n) (class.Major m) = refl
 
 taken_same : (s t : TakenClass) → same_taken s t ≡ true → taken_view t ≡ taken_view s
 taken_same s t h =

@@ -5,7 +5,7 @@ use Rattle.incompatibilities.specs.Stores.{entries_view, ids_at, terms_of}
 use Rattle.propagation.specs.Trails.{front_of, space_of, trail_view}
 use Rattle.propagation.specs.Satisfaction.{RuledOut}
 use Rattle.propagation.specs.inner.Units.{LiesOn, place_left, entries_left}
-use Rattle.propagation.proofs.Looking.{id_below, read_any}
+use Rattle.propagation.proofs.Reading.{id_below, read_any}
 use Rattle.propagation.proofs.Passing.{front_now}
 use Rattle.propagation.proofs.Sifting.{IsSifted, place_in, sifted, sifted_kept, sifted_none, sifted_out, turn_left}
 use Rattle.propagation.proofs.trail.Trail.still_alive.Goals as goal
