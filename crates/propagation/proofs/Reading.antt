@@ -3,9 +3,8 @@ use Rattle.std.proofs.Common.{◌≡◌, ℕ, zero, suc, ◌+◌, ◌<◌, Bool,
 use Rattle.std.proofs.Common.{List, [], ◌∷◌, length, get_or, map, Some, refl, sym, ap}
 use Rattle.std.proofs.Common.{◌∙◌, subst, arith}
 use Rattle.std.proofs.lemmas.List.{get_or-map}
-use Rattle.std.specs.Prelude.{◌-◌}
 use Rattle.std.specs.Option.{is_some}
-use Rattle.version_sets.specs.Sets.{Members, has}
+use Rattle.version_sets.specs.Sets.{Members}
 use Rattle.incompatibilities.specs.inner.Indexed.{HaveStates}
 use Rattle.incompatibilities.specs.Stores.{EntryView, entry, extent_of, extents_at, ids_at, ids_from}
 use Rattle.incompatibilities.specs.Stores.{terms_of, touches}
