@@ -21,7 +21,8 @@ use Rattle.features.specs.declared.entry.Entry.TheVariants as entry
 use Rattle.lookups.specs.contracts.cause.CausePartialEq.TheImpl as cause_eq
 use Rattle.features.specs.EntryViews.{entry_view}
 use Rattle.features.specs.contracts.entry.EntryPartialEq.TheImpl as entry_eq
-use Rattle.numbering.proofs.Same.{class_same, owner_same, version_same}
+use Rattle.classes.proofs.SameClass.{class_same}
+use Rattle.numbering.proofs.Same.{owner_same, version_same}
 use Rattle.numbering.proofs.Needing.{apart_last}
 
 entry_same : (a b : Entry) → (entry_eq.eq-value).it a b ≡ same_entry (entry_view a) (entry_view b)
