@@ -1,5 +1,5 @@
 -- What may be answered: the valid selection that is chosen, or a derivation where there is none (Cargo book,
--- "Dependency Resolution": locked versions stay, and new ones are the newest).
+-- "Dependency Resolution": where the preferred walk is valid, locked versions stay and new ones are the newest).
 use Rattle.std.specs.Prelude.{◌≡◌, ◌<◌, ◌⊎◌, ℕ, List, true, None, Some, length, slice_get}
 use Rattle.model.specs.Selection.{Holds, here, HasTarget, IsRootAt, IsValidSelection}
 use Rattle.model.specs.Content.{Candidate, Content, Package, Problem, is_root, summary_at}

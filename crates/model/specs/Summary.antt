@@ -41,7 +41,7 @@ abbrev pub KnowsFeatures : Table → Type 0
 KnowsFeatures table = (f g : List ℕ) (es : List Entry) → entries_at f table ≡ Some es → Contains es (feature g)
     → has_feature table g ≡ true
 
--- the root or a candidate: what it brings, without the dependencies that take no part
+-- the root or a candidate: what it brings, without a candidate's dev-dependencies
 pub record Summary : Type 0 where
   pub dependencies : List Dependency
   pub features : Table
