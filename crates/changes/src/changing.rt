@@ -6,7 +6,7 @@ ghost use Rattle.catalogue.specs.Loads.{packages_of_old};
 ghost use Rattle.changes.specs.inner.Changed.{is_one, lacking, sharing, those};
 ghost use Rattle.changes.specs.inner.Views.{lent_views};
 
-use crate::relisting::{Relisting, relistings, roots};
+use crate::relisting::{Relisting, has_no_source, relistings, roots};
 use catalogue::is_locked;
 use lockfile::{LockContent, Package};
 use std::alloc::{AllocError, Global};
@@ -24,6 +24,8 @@ pub struct Changes<'a> {
     pub stood: Vec<&'a Package>,
     /// The package of the manifest in the old lock and in the new one.
     pub roots: Option<(&'a Package, &'a Package)>,
+    /// The others of the old lock that have no source, of which the new one has none.
+    pub sourceless: Vec<&'a Package>,
     /// What came onto lists and went from them, of packages that both locks have.
     pub relistings: Vec<Relisting<'a>>,
 }
@@ -42,10 +44,12 @@ pub fn changes_between<'a>(
 {
     let stayed = those(alloc, new.packages(), old, true)?;
     let stood = those(alloc, packages_if(old), Some(new), true)?;
+    let roots = roots(old, new);
     Ok(Changes {
         gone: those(alloc, packages_if(old), Some(new), false)?,
         came: those(alloc, new.packages(), old, false)?,
-        roots: roots(old, new),
+        roots,
+        sourceless: sourceless(alloc, packages_if(old), roots)?,
         relistings: relistings(alloc, old, new, &stood, &stayed)?,
         stayed,
         stood,
@@ -58,6 +62,29 @@ fn packages_if<'a>(content: Option<&'a LockContent>) -> &'a [Package]
     match content {
         Some(content) => content.packages(),
         None => &[],
+    }
+}
+
+/// The packages without a source, but that of the manifest.
+fn sourceless<'a>(
+    alloc: Global,
+    packages: &'a [Package],
+    roots: Option<(&Package, &Package)>,
+) -> Result<Vec<&'a Package>, AllocError> {
+    let mut found = Vec::new(alloc);
+    for package in packages.iter() {
+        if has_no_source(package) && !is_before(roots, package) {
+            found.push(package)?;
+        }
+    }
+    Ok(found)
+}
+
+/// Whether the package of the manifest was this one.
+fn is_before(roots: Option<(&Package, &Package)>, package: &Package) -> bool {
+    match roots {
+        Some((before, _)) => before.name == package.name && before.version == package.version,
+        None => false,
     }
 }
 

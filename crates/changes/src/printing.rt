@@ -121,7 +121,8 @@ fn is_of_root_alone(changes: &Changes<'_>) -> bool {
         Some((before, after)) => before.name != after.name || before.version != after.version,
         None => false,
     };
-    is_moved && changes.came.is_empty() && changes.gone.is_empty()
+    let is_none_gone = changes.gone.is_empty() && changes.sourceless.is_empty();
+    is_moved && changes.came.is_empty() && is_none_gone
 }
 
 /// So many packages.
@@ -170,8 +171,10 @@ fn listed_by_root<'a>(
     Ok(listed)
 }
 
-/// What changes in a lock beside its packages of an index: the version of the manifest's package, lists, checksums.
+/// What changes in a lock beside its packages of an index: packages without a source, the version of the manifest's
+/// package, lists, checksums.
 fn push_beside(text: &mut String, changes: &Changes<'_>) -> Result<(), AllocError> {
+    push_sourceless(text, &changes.sourceless)?;
     if let Some((before, after)) = changes.roots {
         push_root(text, before, after)?;
     }
@@ -190,6 +193,15 @@ fn push_beside(text: &mut String, changes: &Changes<'_>) -> Result<(), AllocErro
             "note: the checksums of {summed} unchanged packages change"
         ),
     }
+}
+
+/// The lines of packages without a source that went, as one from a path that is no longer there.
+fn push_sourceless(text: &mut String, packages: &[&Package]) -> Result<(), AllocError> {
+    for package in packages.iter() {
+        let Package { name, version, .. } = package;
+        writeln!(text, "    Removing {name} v{version}")?;
+    }
+    Ok(())
 }
 
 /// The line of the manifest's package, where it changed its name or its version.

@@ -41,21 +41,22 @@ pub(crate) fn relistings<'a>(
     Ok(found)
 }
 
-/// The package of the manifest in each lock: in a lock that Cargo writes for one manifest it alone has no source.
+/// The package of the manifest in each lock. In the new one it alone has no source; in the old one, where others from
+/// paths may have none, it has its name, or another one if it alone has none.
 pub(crate) fn roots<'a>(
     old: Option<&'a LockContent>,
     new: &'a LockContent,
 ) -> Option<(&'a Package, &'a Package)> {
-    let before = root_of(old?)?;
-    let after = root_of(new)?;
+    let packages = old?.packages();
+    let after = new.packages().iter().find(|one| has_no_source(one))?;
+    let is_alone = packages.iter().filter(|one| has_no_source(one)).count() == 1;
+    let before = packages.iter().find(|one| has_no_source(one)
+        && (is_alone || one.name == after.name))?;
     Some((before, after))
 }
 
-fn root_of<'a>(content: &'a LockContent) -> Option<&'a Package> {
-    content
-        .packages()
-        .iter()
-        .find(|package| package.source().is_none())
+pub(crate) fn has_no_source(package: &Package) -> bool {
+    package.source().is_none()
 }
 
 /// Adds what came onto the list of a package and went from it, of the old lock and of the new one.
