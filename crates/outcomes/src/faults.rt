@@ -24,7 +24,7 @@ const CAUSES: &str =
     "the lock was changed by hand, or this index isn't the one that it was made from";
 
 /// What can be done about a source that isn't supported.
-const BY_CARGO: &str = "Cargo can: `cargo generate-lockfile`";
+const BY_CARGO: &str = "Cargo can: `cargo update --workspace`";
 
 /// What a fault says, without its code.
 #[derive(Clone, Copy)]

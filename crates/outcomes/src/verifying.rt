@@ -55,7 +55,16 @@ fn judged<F: Folder>(
     if said.is_quiet() {
         tell_invalid(alloc, project.paths, verdict, said)?;
     }
-    said.advice("`cargo relock resolve` tells what a valid lock would change")?;
+    let lock = lockfile::read(alloc, lock_in(bytes))?;
+    let repair = if reports::lacks_version(index, &lock) {
+        " --repair"
+    } else {
+        ""
+    };
+    let text = format!(in alloc;
+        "`cargo relock resolve{repair}` tells what a valid lock would change"
+    )?;
+    said.advice(text.as_str())?;
     Ok(Outcome::no())
 }
 

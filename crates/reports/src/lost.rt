@@ -1,5 +1,6 @@
 //! Locked versions that an index can't give.
 
+use catalogue::Catalogue;
 use changes::{changes_between, named};
 use classes::Class;
 use features::PackageName;
@@ -46,6 +47,18 @@ pub fn lost_version<F: Folder>(
         Ok(None) | Err(FolderFault::Failed) => Ok(None),
         Err(FolderFault::OutOfMemory) => Err(AllocError),
     }
+}
+
+/// Whether an index lacks a locked version and has a compatible one, which nothing takes unasked.
+pub fn lacks_version(catalogue: &Catalogue, lock: &LockContent) -> bool {
+    lock.packages().iter().any(|package| package.source().is_some() && is_lost(catalogue, package))
+}
+
+fn is_lost(catalogue: &Catalogue, package: &Package) -> bool {
+    let Package { name, version, .. } = package;
+    let class = Class::of(version);
+    let mut versions = catalogue.versions(name).iter();
+    catalogue.candidate(name, version).is_none() && versions.any(|other| Class::of(other) == class)
 }
 
 /// Whether one of some packages is another compatible version of a package, of the same source.
