@@ -219,7 +219,11 @@ pub(crate) fn update_at<'a, R: Files + Clock + Eprint + AllocGlobal + Clone + Dr
         Ok(asked) => asked,
         Err(words) => return Err(Failure::NoPackage(String::from_str(rt.alloc(), words)?)),
     };
-    let bytes = read_files(rt, paths, false)?;
+    let bytes = if asked.is_empty() {
+        read_files(rt, paths, false)?
+    } else {
+        with_lock(rt, paths)?
+    };
     let project = Project::of(paths, &bytes);
     let wish = checked(rt, project, wish, said)?;
     let mut index = index_at(rt, paths, watch)?;
@@ -328,7 +332,7 @@ fn with_lock<'a, R: Files + AllocGlobal>(
         Ok(bytes) => Ok(bytes),
         Err(ReadFault::CannotRead(path, error)) => {
             if path == paths.lock.as_str() && error.kind() == ErrorKind::NotFound {
-                Err(Failure::NoLock(path, error))
+                Err(Failure::NoLock(path))
             } else {
                 Err(Failure::Unread(ReadFault::CannotRead(path, error)))
             }

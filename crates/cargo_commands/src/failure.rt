@@ -10,8 +10,8 @@ use std::{fmt, io};
 pub(crate) enum Failure<'a> {
     OutOfMemory,
     Unread(ReadFault<'a>),
-    /// There is no lock at this path, and one is needed; what the system says.
-    NoLock(&'a str, io::Error),
+    /// There is no lock at this path, and one is needed.
+    NoLock(&'a str),
     Unwritten(WriteFault<'a>),
     /// Neither the words nor the environment name an index, and Cargo fetched none.
     NoIndex,
@@ -34,7 +34,7 @@ impl Failure<'_> {
     pub(crate) fn kind(&self) -> &'static str {
         match self {
             Failure::OutOfMemory => "fault",
-            Failure::Unread(_) | Failure::NoLock(_, _) => "unread",
+            Failure::Unread(_) | Failure::NoLock(_) => "unread",
             Failure::Unwritten(_) | Failure::CannotWrite(_) => "unwritten",
             Failure::NoIndex
             | Failure::NoPackage(_)
@@ -52,7 +52,10 @@ impl fmt::Display for Failure<'_> {
         match self {
             Failure::OutOfMemory => write!(f, "there isn't enough memory ({})", Fault::OutOfMemory),
             Failure::Unread(fault) => write!(f, "{fault}"),
-            Failure::NoLock(path, error) => write!(f, "cannot read {path}: {error}"),
+            Failure::NoLock(path) => write!(
+                f,
+                "there is no {path} yet; `cargo relock resolve` tells what it would be"
+            ),
             Failure::Unwritten(fault) => write!(f, "{fault}"),
             Failure::NoIndex => f.write_str(
                 "no index is named, and Cargo fetched none: give --index DIR, or set RELOCK_INDEX",

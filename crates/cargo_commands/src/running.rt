@@ -227,12 +227,7 @@ fn failed<O: Write, E: Write>(
 
 fn tell_failure(alloc: Global, failure: &Failure<'_>, said: &mut Said) -> Result<(), AllocError> {
     let message = format!(in alloc; "{failure}")?;
-    said.error(failure.kind(), message.as_str())?;
-    if matches!(failure, Failure::NoLock(_, _)) {
-        said.note("`cargo relock resolve` tells what it would be")
-    } else {
-        Ok(())
-    }
+    said.error(failure.kind(), message.as_str())
 }
 
 /// The status of a failure, which is told to people.
