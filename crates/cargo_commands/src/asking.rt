@@ -29,7 +29,8 @@ fn index_at<'r, R: Files + Clock + Eprint + AllocGlobal + Clone + Drop>(
     watch: Watch,
 ) -> Result<Box<Index<'r, R>>, AllocError> {
     let folder = folder_at(rt, paths)?;
-    Ok(Box::new(rt.alloc(), Counted::new(folder, rt, watch))?)
+    let alloc = rt.alloc();
+    Ok(Box::new(alloc, Counted::new(alloc, folder, rt, watch))?)
 }
 
 fn folder_at<R: Files + AllocGlobal + Clone + Drop>(
@@ -54,7 +55,7 @@ fn ended<R: Files + Clock + Eprint + AllocGlobal + Clone + Drop>(
     let paths = project.paths;
     let seen = index.seen();
     let path = paths.index.as_str();
-    if seen.asked > 0 && seen.files == 0 {
+    if seen.asked() > 0 && seen.files == 0 {
         if let Some(lacking) = lacking_at(rt, path)? {
             return without_index(alloc, path, &lacking, said);
         }
@@ -70,7 +71,7 @@ fn ended<R: Files + Clock + Eprint + AllocGlobal + Clone + Drop>(
         tell_fetched(alloc, path, missing, said)?;
     }
     if let Some(millis) = watch.told(rt) {
-        tell_time(alloc, millis, seen.asked, seen.lines, said)?;
+        tell_time(alloc, millis, seen.asked(), seen.lines, said)?;
     }
     Ok(outcome)
 }
@@ -383,7 +384,7 @@ pub(crate) fn skips_at_all<'a, R: Files + Clock + Eprint + AllocGlobal + Clone +
     if told.is_ok() {
         tell_all_read(alloc, paths, &index, said)?;
     }
-    if index.seen().asked == 0 {
+    if index.seen().asked() == 0 {
         if let Some(lacking) = lacking_in(rt, paths.index.as_str(), &files)? {
             return Ok(without_index(alloc, paths.index.as_str(), &lacking, said)?);
         }

@@ -4,6 +4,7 @@ use crate::seen::Seen;
 use crate::teller::Teller;
 use crate::watch::Watch;
 use index_reader::{Folder, FolderFault};
+use std::alloc::Global;
 use std::io::Eprint;
 use std::time::Clock;
 
@@ -16,17 +17,17 @@ pub(crate) struct Counted<'a, F: Folder + Drop, R: Clock + Eprint> {
 }
 
 impl<'a, F: Folder + Drop, R: Clock + Eprint> Counted<'a, F, R> {
-    pub(crate) fn new(folder: F, rt: &'a R, watch: Watch) -> Counted<'a, F, R> {
+    pub(crate) fn new(alloc: Global, folder: F, rt: &'a R, watch: Watch) -> Counted<'a, F, R> {
         Counted {
             folder,
-            seen: Seen::nothing(),
+            seen: Seen::nothing(alloc),
             teller: Teller::new(rt, watch),
         }
     }
 
     /// What was asked for and read until now.
-    pub(crate) fn seen(&self) -> Seen {
-        self.seen
+    pub(crate) fn seen(&self) -> &Seen {
+        &self.seen
     }
 
     /// The folder itself.
@@ -41,9 +42,9 @@ impl<F: Folder + Drop, R: Clock + Eprint> Folder for Counted<'_, F, R> {
     ghost failed = { λ counted. F.failed counted.folder };
 
     fn file(&mut self, path: &str) -> Result<Option<Vec<u8>>, FolderFault> {
-        self.teller.tell(self.seen);
+        self.teller.tell(&self.seen);
         let answer = self.folder.file(path);
-        self.seen.count(&answer);
+        self.seen.count(path, &answer);
         answer
     }
 

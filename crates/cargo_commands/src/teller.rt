@@ -32,7 +32,7 @@ impl<'a, R: Clock + Eprint> Teller<'a, R> {
     }
 
     /// Tells what was seen, where it is time to.
-    pub(crate) fn tell(&mut self, seen: Seen) {
+    pub(crate) fn tell(&mut self, seen: &Seen) {
         let Some(millis) = self.watch.shown(self.rt) else {
             return;
         };
@@ -41,7 +41,7 @@ impl<'a, R: Clock + Eprint> Teller<'a, R> {
         }
         self.next = millis.saturating_add(PAUSE);
         self.is_told = true;
-        let Seen { asked, lines, .. } = seen;
+        let (asked, lines) = (seen.asked(), seen.lines);
         let _ = eprint!(self.rt; "\r     Reading {asked} names, {lines} lines");
     }
 }

@@ -91,9 +91,9 @@ impl<F> Ended<F> {
     }
 }
 
-/// Whether a text is what is told of it, where a line `...` stands for any lines.
+/// Whether a text is what is told of it, where a line `...` stands for any lines; without one, `...` for any text.
 fn is_like(text: &str, told: &str) -> bool {
-    match told.split_once("...\n") {
+    match told.split_once("...\n").or(told.split_once("...")) {
         Some((front, back)) => text.starts_with(front) && text.ends_with(back),
         None => text == told,
     }

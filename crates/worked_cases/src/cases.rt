@@ -4,7 +4,8 @@
 //! A case is a folder with the files that its commands read and a file `session`. A session begins with lines that say
 //! what the case is about, up to the first that begins with `$ `. That is a command, and the lines below it, up to the
 //! next one, say how it has to end: `? N` the status is N (without it 0), `! LINE` a line of standard error, any other
-//! a line of standard output. Both texts have to be exactly these lines, where a line `...` stands for any lines.
+//! a line of standard output. Both texts have to be exactly these lines, where a line `...` stands for any lines, and
+//! where there is no such one `...` for any text.
 //!
 //! `relock WORD ..` is a run of the program, its words between spaces, `''` for an empty one; files are found from the
 //! case's folder. After the words `>> PATH` appends standard output to a file and `2>> PATH`, behind it, standard
