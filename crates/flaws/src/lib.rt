@@ -54,4 +54,5 @@ pub use no_candidate::NoCandidate;
 pub use package_file::{IndexFile, file_of, out_of_memory};
 pub use reason::{NothingFits, nothing_fits};
 pub use sentences::{has_metadata, tell_flaws};
+pub use similar::nearest;
 pub use unsummed::without_checksums;

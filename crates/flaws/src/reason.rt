@@ -21,7 +21,7 @@ pub struct NothingFits<'a> {
     /// A name that there is, where nothing of the dependency's name can be used.
     pub other: Option<&'a PackageName>,
     /// A feature of nearly the same name, where no version has the one that is lacking.
-    pub similar: Option<&'a FeatureName>,
+    pub similar: Option<&'a str>,
     /// Where there is none of nearly the same name, all features of the newest version that fits.
     pub offered: Option<&'a FeatureTable>,
     /// How many versions are yanked and would fit.

@@ -1,4 +1,4 @@
-//! A feature whose name is nearly that of one that is lacking.
+//! A name that is nearly that of what is lacking.
 
 use catalogue::Catalogue;
 use classes::is_matched;
@@ -12,11 +12,14 @@ pub(crate) fn similar_feature<'a>(
     catalogue: &'a Catalogue,
     dependency: &DependencyParts,
     feature: &FeatureName,
-) -> Result<Option<&'a FeatureName>, AllocError> {
-    match newest_table(catalogue, dependency) {
-        Some(table) => nearest(alloc, table, feature.as_str()),
-        None => Ok(None),
+) -> Result<Option<&'a str>, AllocError> {
+    let mut names = Vec::new(alloc);
+    if let Some(table) = newest_table(catalogue, dependency) {
+        for (name, _) in table.iter() {
+            names.push(name.as_str())?;
+        }
     }
+    nearest(alloc, &names, feature.as_str())
 }
 
 /// The features of the newest candidate that a dependency matches.
@@ -37,20 +40,19 @@ pub(crate) fn newest_table<'a>(
     }
 }
 
-/// The nearest of the names of features: one for which no more than a third of the letters have to change, as rustc
-/// has it.
-fn nearest<'a>(
+/// The nearest of some names: one for which no more than a third of the letters have to change, as rustc has it.
+pub fn nearest<'a>(
     alloc: Global,
-    table: &'a FeatureTable,
+    names: &[&'a str],
     text: &str,
-) -> Result<Option<&'a FeatureName>, AllocError> {
+) -> Result<Option<&'a str>, AllocError> {
     let mut least = text.len().max(3) / 3;
     let mut nearest = None;
-    for (name, _) in table.iter() {
-        let edits = levenshtein(alloc, text, name.as_str())?;
+    for name in names.iter() {
+        let edits = levenshtein(alloc, text, *name)?;
         if edits < least || edits == least && nearest.is_none() {
             least = edits;
-            nearest = Some(name);
+            nearest = Some(*name);
         }
     }
     Ok(nearest)

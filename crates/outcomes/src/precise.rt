@@ -58,7 +58,7 @@ pub fn precise_in(
         (Meant::Several, _) => NoWay::Several,
         _ => NoWay::Absent,
     };
-    Ok(Err(no_way(alloc, project.paths, words, why, said)?))
+    Ok(Err(no_way(alloc, project, words, why, said)?))
 }
 
 /// The version for the package, and for what lists it, and for all others of these names, their own.

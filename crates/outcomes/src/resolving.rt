@@ -119,7 +119,7 @@ pub fn update_told<F: Folder>(
 ) -> Result<Outcome, Fault> {
     match unlock(alloc, project.bytes, asked)? {
         Unlocked::Rest(rest) => resolved(alloc, folder, project, &rest, wish, said),
-        Unlocked::NoPackage(words, why) => Ok(no_way(alloc, project.paths, words, why, said)?),
+        Unlocked::NoPackage(words, why) => no_way(alloc, project, words, why, said),
     }
 }
 

@@ -1,12 +1,13 @@
 //! What `why` ends with.
 
-use crate::answers::{Form, inputs_in, meant_in, way_in};
+use crate::answers::{Form, inputs_in, lock_in, meant_in, way_in};
 use crate::outcome::Outcome;
-use crate::paths::Paths;
 use crate::reading::Project;
 use crate::said::Said;
 use index_reader::Folder;
-use reports::{Inputs, Meant, Part, Wanted, WhyThere, package_in, part_in, why_there};
+use reports::{
+    Inputs, Meant, Part, Wanted, WhyThere, package_in, part_in, similar_name, why_there,
+};
 use resolver::Fault;
 use std::alloc::{AllocError, Global};
 
@@ -66,7 +67,7 @@ pub fn why_told<F: Folder>(
             said.answer(if is_root { IS_ROOT } else { text.as_str() })?;
             Ok(Outcome::yes())
         }
-        Err(why) => Ok(no_way(alloc, project.paths, words, why, said)?),
+        Err(why) => no_way(alloc, project, words, why, said),
     }
 }
 
@@ -89,14 +90,14 @@ fn way_to<F: Folder>(
 /// That there is no way to tell; of several packages none is meant, which Cargo takes for an error too.
 pub(crate) fn no_way(
     alloc: Global,
-    paths: &Paths<'_>,
+    project: Project<'_>,
     words: &str,
     why: NoWay,
     said: &mut Said,
-) -> Result<Outcome, AllocError> {
-    let lock = paths.lock.as_str();
+) -> Result<Outcome, Fault> {
+    let lock = project.paths.lock.as_str();
     let (kind, text) = match why {
-        NoWay::Absent => ("absent", format!(in alloc; "{words} isn't in {lock}")?),
+        NoWay::Absent => ("absent", absent(alloc, project, words)?),
         NoWay::Unreached => (
             "unreached",
             format!(in alloc; "no list leads to {words} in {lock}")?,
@@ -111,4 +112,16 @@ pub(crate) fn no_way(
         NoWay::Absent | NoWay::Unreached => Outcome::no(),
         NoWay::Several => Outcome::failed(),
     })
+}
+
+/// That a package isn't in the lock, and which one is whose name is nearly the same.
+fn absent(alloc: Global, project: Project<'_>, words: &str) -> Result<String, Fault> {
+    let path = project.paths.lock.as_str();
+    let lock = lockfile::read(alloc, lock_in(project.bytes))?;
+    let (name, _) = words.split_once('@').unwrap_or((words, ""));
+    let mut text = format!(in alloc; "{words} isn't in {path}")?;
+    if let Some(similar) = similar_name(alloc, &lock, name)? {
+        write!(text, "; perhaps {similar} is meant")?;
+    }
+    Ok(text)
 }

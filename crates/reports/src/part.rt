@@ -2,6 +2,7 @@
 
 use crate::wanted::{Wanted, name_in, version_in};
 use features::PackageName;
+use flaws::nearest;
 use lockfile::{LockContent, Package};
 use semver::Version;
 use std::alloc::{AllocError, Global};
@@ -81,6 +82,19 @@ pub fn meant_by(alloc: Global, part: &Part, lock: &LockContent) -> Result<Meant,
         })),
         None => Ok(Meant::Absent),
     }
+}
+
+/// The name of a package of a lock that is nearly the one that is asked for.
+pub fn similar_name<'a>(
+    alloc: Global,
+    lock: &'a LockContent,
+    name: &str,
+) -> Result<Option<&'a str>, AllocError> {
+    let mut names = Vec::new(alloc);
+    for package in lock.packages().iter() {
+        names.push(package.name.as_str())?;
+    }
+    nearest(alloc, &names, name)
 }
 
 impl Part {

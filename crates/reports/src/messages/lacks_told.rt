@@ -60,10 +60,7 @@ fn lack<'a>(
             Some(name) => Some(name.as_str()),
             None => None,
         },
-        similar: match reason.similar {
-            Some(feature) => Some(feature.as_str()),
-            None => None,
-        },
+        similar: reason.similar,
     })
 }
 
