@@ -19,9 +19,9 @@ use std::fmt;
 const REPAIR: &str =
     "`cargo relock resolve --repair` keeps what can be read, and resolves the rest anew";
 
-/// How a checksum can have changed.
-const CAUSES: &str =
-    "the lock was changed by hand, or this index isn't the one that it was made from";
+/// How a checksum can have changed, and what can be done about that.
+pub(crate) const CAUSES: &str =
+    "the lock was changed by hand, or this index isn't the one that it was made from: find out which, and in a wrong lock take out the line `checksum` of this package";
 
 /// What can be done about a source that isn't supported.
 const BY_CARGO: &str = "Cargo can: `cargo update --workspace`";

@@ -1,6 +1,7 @@
 //! What `verify` ends with.
 
 use crate::answers::{Form, flaws_in, inputs_in, lock_in, verdict_in, verdict_on};
+use crate::faults::CAUSES;
 use crate::outcome::Outcome;
 use crate::paths::Paths;
 use crate::reading::{Bytes, Project};
@@ -168,5 +169,6 @@ fn changed<F: Folder>(
     let flaws = flaws_in(alloc, folder, bytes, said.form())?;
     said.fault(fault, Severity::Error)?;
     said.below(flaws.as_str())?;
+    said.note(CAUSES)?;
     Ok(Outcome::failed())
 }
