@@ -21,7 +21,7 @@ const REPAIR: &str =
 
 /// How a checksum can have changed, and what can be done about that.
 pub(crate) const CAUSES: &str =
-    "the lock was changed by hand, or this index isn't the one that it was made from: find out which, and in a wrong lock take out the line `checksum` of this package";
+    "this isn't the index that the lock was made from, or it was changed by hand: then take out its line `checksum`";
 
 /// What can be done about a source that isn't supported.
 const BY_CARGO: &str = "Cargo can: `cargo update --workspace`";
