@@ -1,6 +1,7 @@
 -- Which features the candidates of a class have, and the term that is full where they have none.
 use Rattle.std.proofs.Common.{◌≡◌, Bool, true, false, cond, not, ◌&&◌, ◌||◌, List, [], ◌∷◌, map, filter, refl, sym, ap}
 use Rattle.std.proofs.Common.{◌∙◌, true≢false}
+use Rattle.std.proofs.Math.Bool.{or-true}
 use Rattle.std.specs.Prelude.{ℕ}
 use Rattle.std.specs.List.{list_any, list_all}
 use Rattle.model.specs.Axioms.{at, absent_or, without_full}
@@ -42,10 +43,6 @@ all_pass t (x ∷ xs) e = by (λ h. all_pass t xs h) (t x) e
     by rest true h = absurd (true≢false h)
     by rest false h = ap (λ ys. x ∷ ys) (rest h)
 
-or_yes : (a : Bool) → (a || true) ≡ true
-or_yes true = refl
-or_yes false = refl
-
 more_too : (s : State) (ss ts : List State) → list_all (has_state ss) ts ≡ true
     → list_all (has_state (s ∷ ss)) ts ≡ true
 more_too s ss [] e = refl
@@ -54,7 +51,7 @@ more_too s ss (t ∷ ts) e = by (λ h. more_too s ss ts h) (has_state ss t) e
     by : (list_all (has_state ss) ts ≡ true → list_all (has_state (s ∷ ss)) ts ≡ true) → (b : Bool)
         → (b && list_all (has_state ss) ts) ≡ true
         → ((same_state t s || b) && list_all (has_state (s ∷ ss)) ts) ≡ true
-    by rest true h = ap (λ b. b && list_all (has_state (s ∷ ss)) ts) (or_yes (same_state t s)) ∙ rest h
+    by rest true h = ap (λ b. b && list_all (has_state (s ∷ ss)) ts) (or-true (same_state t s)) ∙ rest h
     by rest false h = absurd (true≢false (sym h))
 
 state_refl : (s : State) → same_state s s ≡ true

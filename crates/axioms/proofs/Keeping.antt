@@ -1,12 +1,10 @@
 -- What is kept stays right, where one more is kept.
-use Rattle.std.proofs.Common.{◌≡◌, ℕ, Bool, true, false, cond, ◌&&◌, List, Some, None, Result, Ok, Err, OnOk, OnErr}
-use Rattle.std.proofs.Common.{refl, sym, Vec, ap, ap₂, ◌∙◌, subst}
+use Rattle.std.proofs.Common.{◌≡◌, ℕ, Bool, true, ◌&&◌, List, Some, Result, OnOk, OnErr}
+use Rattle.std.proofs.Common.{sym, Vec, ap, ap₂, ◌∙◌, subst}
 use Rattle.std.specs.BTreeSet.{BTreeSet}
 use Rattle.std.specs.Borrow.{Bor}
-use Rattle.std.specs.HashMap.{HashMap, IsEmpty, IsUnchanged, Updates, get}
-use Rattle.std.specs.Map.{lookup}
+use Rattle.std.specs.HashMap.{HashMap, IsUnchanged, Updates}
 use Rattle.std.specs.declared.alloc.Global.{Global}
-use Rattle.std.proofs.lemmas.Option.{same_Some}
 use Rattle.semver.specs.Parse.{Held}
 use Rattle.classes.proofs.SameClass.{class_same}
 use Rattle.classes.specs.Classes.{class_view}
@@ -17,36 +15,14 @@ use Rattle.model.specs.Selection.{Class}
 use Rattle.model.specs.Summary.{same_text}
 use Rattle.model.specs.Vertices.{State}
 use Rattle.model.proofs.Same.{both, class-same, text-same}
-use Rattle.axioms.specs.inner.Keeping.{AreAll, AreClasses, AreKept, AreMatched, AreRight, Ask, ClassAsk, IsKept}
+use Rattle.axioms.specs.inner.Keeping.{AreAll, AreClasses, AreKept, AreMatched, Ask, ClassAsk, IsKept}
 use Rattle.axioms.specs.inner.Keeping.{AreHad, AreHadBy, AreLacking, AreReleases, AreReleasesIn, AreThose}
 use Rattle.axioms.specs.inner.Keeping.{FeatureAsk}
 use Rattle.axioms.specs.inner.Keeping.{NameClass, all_releases, classes_in, is_had, lacking_in, same_ask}
 use Rattle.axioms.specs.inner.Keeping.{same_class_ask}
 use Rattle.axioms.specs.inner.Keeping.{same_feature_ask, same_name_class}
-use Rattle.axioms.proofs.Requirements.{requirement-same}
-
-module _ {K V S : Type 0} (same : K → K → Bool) (Is : K → V → Type 0) where
-  pub none_kept : (m : HashMap K V S) → IsEmpty m → AreRight same Is m
-  none_kept m e k v got = let no : None ≡ Some v = sym (ap (lookup (same k)) e) ∙ got in cc
-
-  same_kept : (m after : HashMap K V S) → IsUnchanged m after → AreRight same Is m → AreRight same Is after
-  same_kept m after e are k v got = are k v (sym (ap (lookup (same k)) e) ∙ got)
-
-  module _ (alike : (k l : K) (v : V) → same k l ≡ true → Is k v → Is l v) where
-    more_kept : (m after : HashMap K V S) (k : K) (v : V) → AreRight same Is m → Is k v
-        → Updates same m after k (Some v) → AreRight same Is after
-    more_kept m after k v are one u l w got = by (same k l) refl (sym (u.0 l) ∙ got)
-      where
-        by : (b : Bool) → same k l ≡ b → cond b (Some v) (get same m l) ≡ Some w → Is l w
-        by true e f = alike k l w e (subst (Is k) (same_Some v w f) one)
-        by false e f = are l w f
-
-    -- after one is put there, or isn't for want of memory
-    pub kept_after : {X E : Type 0} (m after : HashMap K V S) (k : K) (v : V) (r : Result X E)
-        → OnOk r (Updates same m after k (Some v)) → OnErr r (IsUnchanged m after) → AreRight same Is m → Is k v
-        → AreRight same Is after
-    kept_after m after k v (Ok x) u e are one = more_kept m after k v are one u
-    kept_after m after k v (Err x) u e are one = same_kept m after e are
+use Rattle.features.proofs.Requirements.{requirement-same}
+use Rattle.lookups.proofs.Kept.{kept_after}
 
 -- equal keys are of one name and one requirement
 pub ask_alike : {A : Type 0} (found : List ℕ → List Held → A) (x y : Ask) → same_ask x y ≡ true

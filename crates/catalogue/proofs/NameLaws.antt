@@ -13,6 +13,7 @@ use Rattle.std.proofs.lemmas.List.Concat.{flat_map-cons}
 use Rattle.std.specs.Option.{option_or}
 use Rattle.std.proofs.lemmas.Bool.{or_parts}
 use Rattle.std.proofs.lemmas.List.Folds.{list_any-append, list_any_at}
+use Rattle.std.proofs.Math.Bool.{or-true}
 use Rattle.model.specs.Summary.{same_text}
 use Rattle.model.proofs.Lists.{all_none, all_cons}
 use Rattle.model.proofs.Same.{text-same, text-refl}
@@ -140,10 +141,6 @@ module _ (q : List ℕ) where
   kept-all ks [] h = h
   kept-all ks (n ∷ ns) h = kept-all (insert_key same_text ks n) ns (kept-key ks n h)
 
-  or-last : (b : Bool) → (b || true) ≡ true
-  or-last true = refl
-  or-last false = refl
-
   -- a name that is put is there
   put-key : (ks : List (List ℕ)) (k : List ℕ) → same_text q k ≡ true
       → list_any (same_text q) (insert_key same_text ks k) ≡ true
@@ -153,7 +150,7 @@ module _ (q : List ℕ) where
       by true h = subst (λ t. list_any (same_text t) ks ≡ true) (sym (text-same q k e)) h
       by false h =
           list_any-append (same_text q) ks (k ∷ []) ∙ ap (λ b. list_any (same_text q) ks || (b || false)) e
-          ∙ or-last (list_any (same_text q) ks)
+          ∙ or-true (list_any (same_text q) ks)
 
   pub put-all : (ks ns : List (List ℕ)) → list_any (same_text q) ns ≡ true
       → list_any (same_text q) (insert_all same_text ks ns) ≡ true

@@ -48,7 +48,7 @@ lower_apart (major a) (patch b) s l = absurd (true≢false l)
 lower_apart (major a) (minor b) s l = absurd (true≢false l)
 
 -- the class of a version is not below that of an older one
-not_below : (v w : Parts) → is_gt (precedence v w) ≡ false → is_lower (class_of w) (class_of v) ≡ false
+pub not_below : (v w : Parts) → is_gt (precedence v w) ≡ false → is_lower (class_of w) (class_of v) ≡ false
 not_below v w h = by (is_lower (class_of w) (class_of v)) refl
   where
     by : (b : Bool) → is_lower (class_of w) (class_of v) ≡ b → b ≡ false

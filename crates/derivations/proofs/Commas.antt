@@ -18,12 +18,6 @@ separated-commas f [] = refl
 separated-commas f (x ∷ []) = append-nil (f x)
 separated-commas f (x ∷ y ∷ ys) = later-commas f x y ys (separated-commas f (y ∷ ys))
 
--- one more is written
-pub one-more : (text comma one rest whole : List ℕ) → text ++ (comma ++ (one ++ rest)) ≡ whole
-    → (text ++ (comma ++ one)) ++ rest ≡ whole
-one-more text comma one rest whole h =
-    append_assoc text (comma ++ one) rest ∙ ap (λ t. text ++ t) (append_assoc comma one rest) ∙ h
-
 -- all is written
 pub all-written : {X Y : Type 0} (f : X → List ℕ) (v : Y → X) (text old : List ℕ) (later : Bool) (i : ℕ) (ys : List Y)
     → length ys ≤ i

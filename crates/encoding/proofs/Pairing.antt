@@ -1,6 +1,6 @@
 -- The instances of pairs, put one pair after another.
 use Rattle.std.proofs.Common.{◌≡◌, ◌≢◌, ◌<◌, ◌≤◌, ℕ, zero, suc, List, [], ◌∷◌, ◌++◌, length, map, take, take_all, true}
-use Rattle.std.proofs.Common.{false, is_some, nat_lt, Contains, Option, Some, None, slice_get, refl, sym, ap, ◌∙◌}
+use Rattle.std.proofs.Common.{false, is_some, nat_lt, Contains, Some, slice_get, refl, sym, ap, ◌∙◌}
 use Rattle.std.proofs.Common.{subst, inl, inr, arith}
 use Rattle.std.specs.Prelude.{option_and_then, option_map, unwrap_or}
 use Rattle.std.specs.List.{AllPairs, flat_map}
@@ -253,10 +253,6 @@ module _ (q : Problem) where
       within v (r ∷ ss) zero = let f : nat_lt 0 (suc (length ss)) ≡ true = grind arith in f
       within v (r ∷ ss) (suc s) = let f : nat_lt (suc s) (suc (length ss)) ≡ nat_lt s (length ss) =
           grind arith in f ∙ within v ss s
-
-  pub none_of : (o : Option Pair) → is_some o ≡ false → o ≡ None
-  none_of None h = refl
-  none_of (Some p) h = let x : true ≡ false = h in cc
 
   -- ---- each cause at one pair
 

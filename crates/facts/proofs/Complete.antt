@@ -5,6 +5,7 @@ use Rattle.std.specs.List.{flat_map}
 use Rattle.std.proofs.lemmas.Bool.{eq-eqb}
 use Rattle.std.proofs.lemmas.List.Elements.{Contains-append_left, Contains-append_right}
 use Rattle.std.proofs.lemmas.Option.{same_Some}
+use Rattle.std.proofs.Math.Bool.{or-true}
 use Rattle.facts.specs.declared.rule.Rule.{Rule}
 use Rattle.facts.specs.inner.Chains.{has, IsGiven}
 use Rattle.facts.specs.inner.Chains.IsGiven.{begins, follows}
@@ -202,11 +203,7 @@ module _ (nodes : List NodeView) (root : ℕ) (ps : List FactNumbersView) (marks
       let k = dep n e.x e.p i d e.at b in
       let opt : (k.l).dependency.optional ≡ false = ap (λ (d : Dependency). d.optional) (k.is).dependency ∙ o in
       enabled_got n e.x e.p i d e.at k (needed n e.x e.p i d e.at k
-      (ap (λ c. nat_eq n root || not c) opt ∙ or_true (nat_eq n root)) (here_given n e))
-    where
-      or_true : (b : Bool) → (b || true) ≡ true
-      or_true true = refl
-      or_true false = refl
+      (ap (λ c. nat_eq n root || not c) opt ∙ or-true (nat_eq n root)) (here_given n e))
   got w (asks n u i d f h b l a) =
       let e = got (enabled n i) h in
       let k = dep n e.x e.p i d e.at b in

@@ -149,9 +149,6 @@ lists-back f (y ∷ ys) (suc n) i h = lists-back f ys n i h
 -- ---- the answers
 
 module _ (nodes : List NodeView) (root : ℕ) (ps : List FactNumbersView) (a : AreNumberedFrom 0 nodes ps) where
-  marks : List Mark
-  marks = marks_from 0 nodes
-
   flags_is : flags_of_all nodes ≡ map (flag nodes) (marks_from 0 nodes)
   flags_is = flags_are nodes 0 nodes (λ j. let e : 0 + j ≡ j = omega arith in ap (slice_get nodes) e)
 

@@ -11,6 +11,7 @@ use Rattle.std.specs.List.{list_all, list_any}
 use Rattle.std.proofs.lemmas.List.{drop_more}
 use Rattle.std.proofs.lemmas.List.Folds.{list_any-append}
 use Rattle.std.proofs.lemmas.Map.Lookups.{exact_bytes}
+use Rattle.std.proofs.Math.Bool.{or-false, or_comm}
 use Rattle.std.specs.declared.alloc.Global.{Global}
 use Rattle.model.specs.Summary.{Table, same_text}
 use Rattle.model.specs.Summary as model
@@ -28,12 +29,6 @@ pub contains-has : (d : List ℕ) (ks : List (Bor (List ℕ)))
 contains-has d [] = refl
 contains-has d (k ∷ ks) = ap₂ (λ a b. a || b) (sym (texts_ties d k.now)) (contains-has d ks)
 
-or_swap : (a b : Bool) → (a || b) ≡ (b || a)
-or_swap true true = refl
-or_swap true false = refl
-or_swap false true = refl
-or_swap false false = refl
-
 or_twice : (a b : Bool) → (a || b) ≡ ((a || b) || a)
 or_twice true b = refl
 or_twice false true = refl
@@ -45,14 +40,14 @@ or_assoc false b c = refl
 
 pub has_text-insert_key : (d : List ℕ) (k : Bor (List ℕ)) (ks : List (Bor (List ℕ)))
     → has_text (insert_key borrowed_cmp ks k) d ≡ (has_text ks d || same_text d k.now)
-has_text-insert_key d k [] = or_swap (same_text d k.now) false
+has_text-insert_key d k [] = or_comm (same_text d k.now) false
 has_text-insert_key d k (x ∷ xs) = by (borrowed_cmp k x) refl (has_text-insert_key d k xs)
   where
     by : (o : Ordering) → borrowed_cmp k x ≡ o
         → has_text (insert_key borrowed_cmp xs k) d ≡ (has_text xs d || same_text d k.now)
         → has_text (match_ordering o (k ∷ x ∷ xs) (x ∷ xs) (x ∷ insert_key borrowed_cmp xs k)) d
         ≡ (has_text (x ∷ xs) d || same_text d k.now)
-    by Less e rest = or_swap (same_text d k.now) (has_text (x ∷ xs) d)
+    by Less e rest = or_comm (same_text d k.now) (has_text (x ∷ xs) d)
     by Equal e rest = subst (λ n. has_text (x ∷ xs) d ≡ (has_text (x ∷ xs) d || same_text d n))
         (sym (exact_bytes k.now x.now e)) (or_twice (same_text d x.now) (has_text xs d))
     by Greater e rest =
@@ -114,15 +109,11 @@ module _ (test : model.Entry → Bool) (es : List (List ℕ × Vec Entry Global)
   first_with-beyond h = first_with-later test row (drop (i + 1) es) h
       ∙ ap (λ rows. first_with test (rows_of rows)) (sym from-row)
 
-or_none : (a : Bool) → (a || false) ≡ a
-or_none true = refl
-or_none false = refl
-
 dep_entry-next : (d : List ℕ) (es : List (List ℕ × Vec Entry Global)) (i : ℕ) (row : List ℕ × Vec Entry Global)
     → i < length es → has_dep_entry (rows_of (take (suc i) es)) d
     ≡ (has_dep_entry (rows_of (take i es)) d || list_any (is_dep d) (entry_views (get_or es i row).1.items))
 dep_entry-next d [] i row inside = absurd (omega arith)
-dep_entry-next d (e ∷ es) zero row inside = or_none (list_any (is_dep d) (entry_views e.1.items))
+dep_entry-next d (e ∷ es) zero row inside = or-false (list_any (is_dep d) (entry_views e.1.items))
 dep_entry-next d (e ∷ es) (suc i) row inside =
     ap (λ b. list_any (is_dep d) (entry_views e.1.items) || b) (dep_entry-next d es i row (omega arith))
     ∙ or_assoc (list_any (is_dep d) (entry_views e.1.items)) (has_dep_entry (rows_of (take i es)) d)

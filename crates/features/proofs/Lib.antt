@@ -7,3 +7,4 @@ pub mod DraftLemmas
 pub mod NameLemmas
 pub mod ValidLemmas
 pub mod TextMaps
+pub mod Requirements

@@ -1,8 +1,8 @@
 -- Nothing is told of a package exactly where each condition of a valid selection holds at it.
-use Rattle.std.proofs.Common.{◌≡◌, ◌↔◌, ◌<◌, ◌==◌, ℕ, Bool, true, false, not, ◌&&◌, cond, List, [], ◌∷◌, length, Option}
+use Rattle.std.proofs.Common.{◌≡◌, ◌↔◌, ◌==◌, ℕ, Bool, true, false, not, cond, List, [], ◌∷◌, length, Option}
 use Rattle.std.proofs.Common.{Some, None, slice_get, Contains, MatchOption, is_some, refl, sym, ap, ◌∙◌, subst, inl}
 use Rattle.std.proofs.Common.{inr, arith, true≢false}
-use Rattle.std.proofs.lemmas.Bool.{and_from, eqb-true, not-true, not_from_false}
+use Rattle.std.proofs.lemmas.Bool.{and_from, eqb-true, not-false, not-true, not_from_false}
 use Rattle.std.proofs.lemmas.Option.{none-some, same_Some}
 use Rattle.model.specs.Content.{Package, Content, Problem, is_root, candidate_of, list_if, target_of}
 use Rattle.model.specs.Selection.{HasTarget, IsTarget}
@@ -57,12 +57,8 @@ module _ (m : ManifestView) (index : CatalogueView) (content : Content) (f : Fla
       let none : is_some (why_none index here.0) ≡ false =
       ap (λ (r : Option NoCandidate). is_some r) (sym (reason_is false other)) ∙ negated_some f.no_candidate e in
       let known : is_some (candidate_of q here.0) ≡ true =
-      unnegated (is_some (candidate_of q here.0)) (sym (why_decides m index here.0) ∙ none) in
+      not-false (is_some (candidate_of q here.0)) (sym (why_decides m index here.0) ∙ none) in
       subst (λ x. is_some (candidate_of q x) ≡ true) one known
-    where
-      unnegated : (b : Bool) → not b ≡ false → b ≡ true
-      unnegated true e = refl
-      unnegated false e = absurd (true≢false e)
 
   free_candidate : IsFreeOf q content not_candidate n → not (is_some f.no_candidate) ≡ true
   free_candidate free = by (is_root q here.0) refl

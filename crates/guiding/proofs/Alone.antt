@@ -4,7 +4,7 @@ use Rattle.std.proofs.Common.{sym, ap, ◌∙◌, subst, arith}
 use Rattle.std.proofs.lemmas.Bool.{false≢true}
 use Rattle.version_sets.specs.Sets.{Members, has, size}
 use Rattle.propagation.specs.Trails.{set_of}
-use Rattle.propagation.proofs.SetLemmas.{has_some}
+use Rattle.version_sets.proofs.Within.{has_some}
 use Rattle.guiding.specs.inner.Guides.{IsOpenAt, IsUnless}
 
 pub one_member : (s : Members) (i j : ℕ) → size s ≡ 1 → has s i ≡ true → has s j ≡ true → i ≡ j

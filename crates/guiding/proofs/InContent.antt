@@ -110,9 +110,6 @@ module _ (q : Problem) (content : Content) (valid : IsValidSelection q content) 
       (owner_found q content valid o n l.owner ∙ r.1)
       ∙ ap (option_and_then (slice_get content)) target ∙ l.served
 
-  pub none_brought : (r : Option ℕ) → None ≡ brought → IsStateIn q content (dep o i) r
-  none_brought r e s (n, t, d, p, l, is) = absurd (none-some d (e ∙ there n t d p l))
-
   module _ (d : Dependency) (got : Some d ≡ brought) where
     led : (n t : ℕ) (e : Dependency) (p : model.Package) → Leads q content o i n t e p → led_to content o d ≡ Some p
     led n t e p l = ap (led_to content o) (same_Some d e (got ∙ there n t e p l)) ∙ leads n t e p l

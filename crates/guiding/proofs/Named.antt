@@ -10,11 +10,11 @@ use Rattle.std.specs.declared.cmp.Ordering.TheVariants.{Less, Equal, Greater}
 use Rattle.std.proofs.lemmas.Bool.{cases_lt}
 use Rattle.std.proofs.lemmas.Map.Lookups.{exact_bytes}
 use Rattle.semver.specs.Identifiers.{parts_text}
-use Rattle.semver.specs.Parse.{Parts}
 use Rattle.std.proofs.lemmas.List.{length-map}
 use Rattle.std.proofs.lemmas.Option.{slice_get-get_or, slice_get-map}
 use Rattle.lockfile.specs.inner.Views.{package_view, package_views}
 use Rattle.lockfile.specs.declared.package.Package as locked
+use Rattle.classes.proofs.GroupLemmas.{not_below}
 use Rattle.model.specs.Content.{Package, Problem}
 use Rattle.model.specs.Axioms.{is_lower}
 use Rattle.model.specs.Order.{package_cmp, precedence, source_cmp, text_cmp, version_cmp, IsContent}
@@ -22,7 +22,6 @@ use Rattle.model.specs.Selection.{Class, class_of, IsValidSelection}
 use Rattle.model.specs.Summary.{same_text}
 use Rattle.model.specs.Vertices.{same_class}
 use Rattle.model.proofs.Contents.{text-equal}
-use Rattle.model.proofs.Orders.{class_above}
 use Rattle.model.proofs.Owners.{root_parts}
 use Rattle.model.proofs.Same.{text-same}
 use Rattle.model.proofs.Tests.{below-less}
@@ -74,14 +73,6 @@ module _ (name : List ℕ) where
 
 -- ---- by name and class
 
--- the class of a version isn't below that of one that isn't newer
-not_above : (v w : Parts) → is_gt (precedence v w) ≡ false → is_lower (class_of w) (class_of v) ≡ false
-not_above v w h = by (is_lower (class_of w) (class_of v)) refl
-  where
-    by : (b : Bool) → is_lower (class_of w) (class_of v) ≡ b → b ≡ false
-    by false e = refl
-    by true e = absurd (true≢false (sym (class_above w v e) ∙ h))
-
 no_newer : (o t s : Ordering) → ordering_then (ordering_then o t) s ≡ Less → is_gt o ≡ false
 no_newer Less t s e = refl
 no_newer Equal t s e = refl
@@ -96,7 +87,7 @@ module _ (name : List ℕ) (k : Class) where
       let rest = sym (ap (λ o. ordering_then o
       (ordering_then (version_cmp p.version r.version) (source_cmp p.source r.source))) one) ∙ less in
       class_order.lower_first (class_of p.version) (class_of r.version) k
-      (not_above p.version r.version (no_newer (precedence p.version r.version)
+      (not_below p.version r.version (no_newer (precedence p.version r.version)
       (text_cmp (parts_text p.version) (parts_text r.version)) (source_cmp p.source r.source) rest)) l
 
   before_rises : (p r : Package) → package_cmp p r ≡ Less → is_before name k r ≡ true → is_before name k p ≡ true

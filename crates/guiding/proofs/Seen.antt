@@ -1,19 +1,19 @@
 -- What was looked at of a trail, when places are put and cut.
-use Rattle.std.proofs.Common.{◌≡◌, ℕ, suc, ◌<◌, ◌≤◌, true, List, [], ◌++◌, length, map, drop, get_or, refl, sym, ap}
+use Rattle.std.proofs.Common.{◌≡◌, ℕ, suc, ◌<◌, ◌≤◌, true, List, [], ◌++◌, length, map, drop, refl, sym, ap}
 use Rattle.std.proofs.Common.{◌∙◌, subst, arith, inl, inr}
 use Rattle.std.proofs.lemmas.Bool.{cases_eq, cases_lt}
 use Rattle.std.proofs.lemmas.List.{get_or-append_right, length-append}
-use Rattle.version_sets.specs.Sets.{every, has, size}
+use Rattle.version_sets.specs.Sets.{every}
 use Rattle.version_sets.proofs.Laws.{size-le}
-use Rattle.propagation.specs.Trails.{StepView, TrailView, set_of, sets_at, space_of, step_at, undo}
+use Rattle.propagation.specs.Trails.{StepView, TrailView, set_of, sets_at, step_at, undo}
 use Rattle.propagation.specs.Promises.{IsCut, IsSound}
 use Rattle.propagation.specs.inner.Widening.{IsWider}
 use Rattle.propagation.proofs.Back.{back_same, sets_long, sets_now}
 use Rattle.propagation.proofs.Places.{shrinks, some_at}
-use Rattle.propagation.proofs.SetLemmas.{inside_size, only_inside, size_every}
+use Rattle.propagation.proofs.SetLemmas.{inside_size, only_inside}
 use Rattle.propagation.proofs.Soundness.{same_space}
 use Rattle.propagation.proofs.Widened.{old_set, sets_wider}
-use Rattle.guiding.specs.inner.Searching.{AllAsked, AreMore, HasSpaces, IsOnly, IsSeen, LoneAsked, Pairs}
+use Rattle.guiding.specs.inner.Searching.{AllAsked, AreMore, IsOnly, IsSeen, LoneAsked, Pairs}
 
 -- more places at the end
 pub seen_longer : (n : ℕ) (asked : Pairs) (old new : TrailView) (added : List StepView) → new.steps ≡ old.steps ++ added
@@ -45,15 +45,6 @@ seen_cut n k l asked more old new gone sound cut few within grows seen = record 
       ∙ back_same (λ s. s.before) new.steps gone old.sets new.sets k (sym cut.sets) within)
       (λ v i lt only. grows v i (seen.all v i (omega (arith, lt, sets_long old k, sets_long old n))
       (alone_later old sound v i k n few seen.within only)));
-}
-
--- before any place, only vertices of one state stand alone
-pub seen_none : (asked : Pairs) (spaces : List ℕ) (t : TrailView) → IsSound t → HasSpaces spaces t
-    → ((v i : ℕ) → get_or spaces v 0 ≡ 1 → asked v i ≡ true) → IsSeen 0 asked t
-seen_none asked spaces t sound has ones = record {
-  within = omega arith;
-  all = λ v i lt only.
-      ones v i (sym (has.each v) ∙ sym (size_every (space_of t v)) ∙ ap size (sym (sound.starts v)) ∙ only.0);
 }
 
 -- one place more is seen, whose vertex doesn't stand alone now in a state that wasn't asked for

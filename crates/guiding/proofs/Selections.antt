@@ -9,7 +9,8 @@ use Rattle.version_sets.proofs.Within.{meets_at}
 use Rattle.incompatibilities.specs.Incompatibilities.{Assignment, Breaks, HoldsOf, LiesIn, Terms, HoldsAt}
 use Rattle.propagation.specs.Satisfaction.{Agrees, IsQuiet, OthersHold}
 use Rattle.propagation.specs.Trails.{set_of}
-use Rattle.propagation.proofs.SetLemmas.{has_some, one_inside}
+use Rattle.propagation.proofs.SetLemmas.{one_inside}
+use Rattle.version_sets.proofs.Within.{has_some}
 use Rattle.propagation.proofs.Vertices.{in_range}
 use Rattle.guiding.specs.inner.Following.{IsDecidedBut}
 

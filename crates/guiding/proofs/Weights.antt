@@ -1,5 +1,5 @@
 -- What brings the number down.
-use Rattle.std.proofs.Common.{ℕ, zero, suc, ◌+◌, ◌*◌, ◌^◌, ◌<◌, ◌≤◌, List, [], ◌∷◌, ◌++◌, ◌-◌, length, get_or}
+use Rattle.std.proofs.Common.{ℕ, zero, suc, ◌+◌, ◌*◌, ◌^◌, ◌<◌, ◌≤◌, List, [], ◌∷◌, ◌++◌, ◌-◌, length}
 use Rattle.std.proofs.Common.{arith}
 use Rattle.std.proofs.lemmas.Nat.{mul-le}
 use Rattle.std.proofs.Math.Nat.{pow-suc, pow-zero}
@@ -44,11 +44,6 @@ weigh_longer s (suc n) b (z ∷ front) y new len le f =
     let ih = weigh_longer s n z front y new (omega (arith, len)) (omega (arith, f.0)) f.1 in
     omega (arith, ih)
 
--- a falling list is short
-pub short : (b : ℕ) (xs : List ℕ) → Falling b xs → length xs ≤ b
-short b [] f = omega arith
-short b (x ∷ xs) f = let ih = short x xs f.1 in omega (arith, ih, f.0)
-
 pub short_front : (b : ℕ) (front : List ℕ) (y : ℕ) (new : List ℕ) → Falling b (front ++ y ∷ new) → length front < b
 short_front b [] y new f = omega (arith, f.0)
 short_front b (x ∷ xs) y new f = let ih = short_front x xs y new f.1 in omega (arith, ih, f.0)
@@ -65,9 +60,3 @@ pub measure_longer : (s : ℕ) (front : List ℕ) (y : ℕ) (new : List ℕ) →
 unfolding measure_of
 measure_longer s front y new f = weigh_longer s (suc s) (s + 1) front y new
     (let k = short_front (s + 1) front y new f in omega (arith, k)) (omega arith) f
-
-pub lower_first : (s : ℕ) (xs : List ℕ) (d : ℕ) → Falling (s + 1) xs → 0 < length xs → 0 < get_or xs 0 d
-    → measure_of s ((get_or xs 0 d - 1) ∷ []) < measure_of s xs
-lower_first s [] d f some lt = absurd (omega (arith, some))
-lower_first s (x ∷ xs) d f some lt =
-    measure_lower s [] x (x - 1) xs [] (omega (arith, lt)) (let g = f.0 in (omega (arith, g), tt))

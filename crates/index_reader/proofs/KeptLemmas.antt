@@ -3,6 +3,7 @@ use Rattle.std.proofs.Common.{◌≡◌, ◌||◌, List, [], ◌∷◌, ◌++◌
 use Rattle.std.proofs.lemmas.List.{map-append}
 use Rattle.std.proofs.lemmas.List.Elements.{All-head, All-tail}
 use Rattle.std.proofs.lemmas.List.Folds.{list_any-append}
+use Rattle.std.proofs.Math.Bool.{or-false, or_comm}
 use Rattle.std.specs.List.{list_any}
 use Rattle.std.specs.Ordering.{is_eq, ordering_then, nat_cmp, match_ordering}
 use Rattle.std.specs.declared.cmp.Ordering.{Ordering}
@@ -24,16 +25,6 @@ swap_or : (a b c : Bool) → (a || (b || c)) ≡ (b || (a || c))
 swap_or true true c = refl
 swap_or true false c = refl
 swap_or false b c = refl
-
-or_swap : (a b : Bool) → (a || b) ≡ (b || a)
-or_swap true true = refl
-or_swap true false = refl
-or_swap false true = refl
-or_swap false false = refl
-
-or_false : (b : Bool) → (b || false) ≡ b
-or_false true = refl
-or_false false = refl
 
 -- a new key is found beside the others
 placed : {K : Type 0} (cmp : K → K → Ordering) (p : K → Bool) (x : K) (xs : List K) (k : K) (o : Ordering)
@@ -82,10 +73,10 @@ pub agrees-more : (keys : List Version) (records : List Record) (v : Version) (r
 agrees-more keys records v r agrees same absent w =
     any-insert_key (cmp-value).it (λ k. same_precedence w (parts_of k)) keys v absent
     ∙ ap₂ (λ a b. a || b) (ap (same_precedence w) same) (agrees w)
-    ∙ or_swap (same_precedence w (parts_of r.version)) (has_version (map record_view records) w)
+    ∙ or_comm (same_precedence w (parts_of r.version)) (has_version (map record_view records) w)
     ∙ sym (ap (λ rs. has_version rs w) (map-append record_view records (r ∷ []))
     ∙ list_any-append (λ x. same_precedence w x.version) (map record_view records) (record_view r ∷ [])
-    ∙ ap (λ b. has_version (map record_view records) w || b) (or_false (same_precedence w (parts_of r.version))))
+    ∙ ap (λ b. has_version (map record_view records) w || b) (or-false (same_precedence w (parts_of r.version))))
 
 pub from_not : (a b : Bool) → not a ≡ not b → a ≡ b
 from_not true true same = refl

@@ -10,6 +10,7 @@ use Rattle.std.proofs.lemmas.Bool.Decides.{nat_tests}
 use Rattle.std.proofs.lemmas.Cmp.{nat_list_eq_equiv, eq_by_cmp_equiv, tied_itself, nat_list_cmp_total}
 use Rattle.std.proofs.lemmas.Option.{slice_get-map}
 use Rattle.std.proofs.lemmas.Bool.{and_from}
+use Rattle.std.proofs.Math.Bool.{and-false, and-true}
 use Rattle.semver.specs.Grammar.{IsValid}
 use Rattle.semver.specs.Parse.{Parts}
 use Rattle.model.specs.Content.{Package, Content, same_version, passes}
@@ -91,17 +92,9 @@ later-alone w (p ∷ (r ∷ rs)) zero s h = by_case (is_wanted w p) refl
         ≡ (length (filter (is_wanted w) (p ∷ (r ∷ rs))) == 1)
     by_case true e = rw (e, h, more-than-one (suc (length (filter (is_wanted w) rs))) (omega arith))
         (and-false (not (passes (is_wanted w) (slice_get rs 0))))
-      where
-        and-false : (b : Bool) → (b && false) ≡ false
-        and-false true = refl
-        and-false false = refl
     by_case false e =
         let first = first-alone w r rs s.1 h in
         rw e (and-true (not (passes (is_wanted w) (slice_get rs 0))) ∙ first)
-      where
-        and-true : (b : Bool) → (b && true) ≡ b
-        and-true true = refl
-        and-true false = refl
 later-alone w (p ∷ (r ∷ rs)) (suc n) s h = by_case (is_wanted w p) refl (later-alone w (r ∷ rs) n s.1 h)
   where
     by_case : (b : Bool) → is_wanted w p ≡ b
@@ -115,10 +108,6 @@ later-alone w (p ∷ (r ∷ rs)) (suc n) s h = by_case (is_wanted w p) refl (lat
         let more : (suc (length (filter (is_wanted w) (r ∷ rs))) == 1) ≡ false =
         more-than-one _ (some-pass (is_wanted w) (r ∷ rs) (suc n) h) in
         rw (e, beside, more) (and-false (not (passes (is_wanted w) (slice_get (r ∷ rs) (suc (suc n))))))
-      where
-        and-false : (b : Bool) → (b && false) ≡ false
-        and-false true = refl
-        and-false false = refl
 
 -- ---- in the words of the call
 

@@ -7,7 +7,6 @@ use Rattle.std.specs.List.{list_any}
 use Rattle.std.specs.Option.{option_or}
 use Rattle.std.proofs.Math.Bool.{and-false, and-or_distrib_right, and-true}
 use Rattle.semver.specs.Parse.{Parts}
-use Rattle.features.specs.declared.entry.Entry as code
 use Rattle.model.specs.Content.{Problem}
 use Rattle.model.specs.Summary.{Dependency, Entry, feature, dependency, dependency_feature, weak_feature, same_text}
 use Rattle.model.proofs.Same.{text-same}
@@ -41,15 +40,6 @@ module _ {V S : Type 0} (old : Names V S) (d : List ℕ) (v : V) where
           → cond b (Some v) (named old e) ≡ option_or (named old e) (cond b (Some v) None)
       by true f = sym (ap (λ o. option_or o (Some v)) (sym (named_alike e f) ∙ empty (named old d) none))
       by false f = or_none (named old e)
-
-  pub none_put : is_some (named old d) ≡ true → PutsNew old d v old
-  none_put some e = by (same_text d e) refl (named old e) refl
-    where
-      by : (b : Bool) → same_text d e ≡ b → (o : Option V) → named old e ≡ o → o ≡ option_or o (cond b (Some v) None)
-      by b f (Some w) g = refl
-      by false f None g = refl
-      by true f None g =
-          let no : false ≡ true = sym (ap is_some (named_alike e f ∙ g)) ∙ some in cc
 
 -- ---- numbers
 
@@ -119,10 +109,6 @@ module _ {A : Type 0} where
   none_first : (u : A → Bool) → ((x : A) → u x ≡ false) → (xs : List A) → first_place u xs ≡ None
   none_first u is [] = refl
   none_first u is (x ∷ xs) = ap₂ (λ b o. cond b (Some 0) (option_map suc o)) (is x) (none_first u is xs)
-
-  same_first : (s t : A → Bool) → ((x : A) → s x ≡ t x) → (xs : List A) → first_place s xs ≡ first_place t xs
-  same_first s t is [] = refl
-  same_first s t is (x ∷ xs) = ap₂ (λ b o. cond b (Some 0) (option_map suc o)) (is x) (same_first s t is xs)
 
 module _ {S : Type 0} (q : Problem) (ds : List Dependency) (m : Names ℕ S) (are : AreGone q ds m) where
   one_is : (e : Entry) → number_enabled (named m) e ≡ first_place (λ d. enables d.name e && is_unmatched q d) ds

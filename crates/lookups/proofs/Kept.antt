@@ -1,7 +1,7 @@
 -- What is kept stays right, where one more is kept.
-use Rattle.std.proofs.Common.{◌≡◌, ℕ, List, Bool, true, false, cond, Some, None, Result, Ok, Err, OnOk, OnErr}
+use Rattle.std.proofs.Common.{◌≡◌, ℕ, List, Bool, true, false, cond, Some, Result, Ok, Err, OnOk, OnErr}
 use Rattle.std.proofs.Common.{refl, sym, ap, ◌∙◌, subst}
-use Rattle.std.specs.HashMap.{HashMap, IsEmpty, IsUnchanged, Updates, get}
+use Rattle.std.specs.HashMap.{HashMap, IsUnchanged, Updates, get}
 use Rattle.std.specs.Map.{lookup}
 use Rattle.std.proofs.lemmas.Option.{same_Some}
 use Rattle.model.specs.Vertices.{Owner}
@@ -11,9 +11,6 @@ use Rattle.vertices.specs.declared.vertex.OwnerRef.{OwnerRef}
 use Rattle.lookups.specs.inner.Numbers.{AreRight, IsOf, IsOfRow, Row, same_ref, same_row}
 
 module _ {K V S : Type 0} (same : K → K → Bool) (Is : K → V → Type 0) where
-  pub none_kept : (m : HashMap K V S) → IsEmpty m → AreRight same Is m
-  none_kept m e k v got = let no : None ≡ Some v = sym (ap (lookup (same k)) e) ∙ got in cc
-
   same_kept : (m after : HashMap K V S) → IsUnchanged m after → AreRight same Is m → AreRight same Is after
   same_kept m after e are k v got = are k v (sym (ap (lookup (same k)) e) ∙ got)
 
@@ -27,7 +24,7 @@ module _ {K V S : Type 0} (same : K → K → Bool) (Is : K → V → Type 0) wh
         by false e f = are l w f
 
     -- after one is put there, or isn't for want of memory
-    kept_after : {X E : Type 0} (m after : HashMap K V S) (k : K) (v : V) (r : Result X E)
+    pub kept_after : {X E : Type 0} (m after : HashMap K V S) (k : K) (v : V) (r : Result X E)
         → OnOk r (Updates same m after k (Some v)) → OnErr r (IsUnchanged m after) → AreRight same Is m → Is k v
         → AreRight same Is after
     kept_after m after k v (Ok x) u e are one = more_kept m after k v are one u

@@ -3,7 +3,7 @@ use Rattle.std.proofs.Common.{◌≡◌, ℕ, zero, suc, ◌-◌, ◌<◌, ◌�
 use Rattle.std.proofs.Common.{filter, take, drop, length, get_or, refl, sym, ap, ◌∙◌, arith, true≢false}
 use Rattle.std.specs.List.{list_any}
 use Rattle.std.specs.List.Sorted.{IsPartitionedBy, IsPartitionPoint}
-use Rattle.std.proofs.lemmas.Bool.{not-true}
+use Rattle.std.proofs.lemmas.Bool.{not-false, not-true}
 use Rattle.std.proofs.lemmas.List.{take_rest}
 use Rattle.semver.specs.EvalViews.{matches_views}
 use Rattle.semver.specs.Identifiers.{parts_of}
@@ -13,7 +13,7 @@ use Rattle.model.proofs.Mapped.{any-map}
 use Rattle.catalogue.specs.inner.Bounds.{is_beyond, is_short}
 use Rattle.catalogue.proofs.Bounded.{beyond_after, not_beyond, not_short, short_before}
 use Rattle.lookups.specs.inner.Ranges.{AreRising}
-use Rattle.lookups.proofs.Pieces.{not_false, parted, parts_filtered, skipped}
+use Rattle.lookups.proofs.Pieces.{parted, parts_filtered, skipped}
 
 pub short_parted : (cs : List Held) (vs : List Version) → AreRising vs
     → IsPartitionedBy (λ v. is_short cs (parts_of v)) vs
@@ -61,7 +61,7 @@ pub too_new_fails : (cs : List Held) (vs : List Version) (j : ℕ)
     (λ v. not (is_beyond cs (parts_of v)) ≡ false) vs j
     → (n : ℕ) (d : Version) → j ≤ n → n < length vs → matches_views cs (parts_of (get_or vs n d)) ≡ false
 too_new_fails cs vs j point n d high within = let v = parts_of (get_or vs n d) in
-    fails (matches_views cs v) (is_beyond cs v) (not_beyond cs v) (not_false (is_beyond cs v) (point.1 n d high within))
+    fails (matches_views cs v) (is_beyond cs v) (not_beyond cs v) (not-false (is_beyond cs v) (point.1 n d high within))
 
 between : (cs : List Held) (vs : List Version) (i j : ℕ)
     → IsPartitionPoint (λ v. is_short cs (parts_of v) ≡ true) (λ v. is_short cs (parts_of v) ≡ false) vs i
@@ -73,7 +73,7 @@ between cs vs i j first last =
     let t : Version → Bool = λ v. matches_views cs (parts_of v) in
     cut t (drop i vs) j (λ k d low within. let v = parts_of (get_or (drop i vs) k d) in
     fails (matches_views cs v) (is_beyond cs v) (not_beyond cs v)
-    (not_false (is_beyond cs v) (last.1 k d low within)))
+    (not-false (is_beyond cs v) (last.1 k d low within)))
     ∙ sym (skipped t vs i (λ k d low within. let v = parts_of (get_or vs k d) in
     fails (matches_views cs v) (is_short cs v) (not_short cs v) (first.0 k d (omega arith) low)))
 

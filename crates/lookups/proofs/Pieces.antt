@@ -5,7 +5,7 @@ use Rattle.std.proofs.Common.{inr}
 use Rattle.std.specs.List.Sorted.{IsPartitionedBy, IsPartitionPoint}
 use Rattle.std.specs.Ordering.{is_gt}
 use Rattle.std.specs.declared.cmp.Ordering.TheVariants.{Less}
-use Rattle.std.proofs.lemmas.Bool.{cases_lt, lt-ltb, ltb-true, ltb-false, eq-eqb, not-true}
+use Rattle.std.proofs.lemmas.Bool.{cases_lt, eq-eqb, lt-ltb, ltb-false, ltb-true, not-false, not-true}
 use Rattle.std.proofs.lemmas.List.{drop-map, get_or-drop, length-drop, length-map, take-map, take_rest}
 use Rattle.semver.specs.Identifiers.{parts_of}
 use Rattle.semver.specs.Parse.{Parts}
@@ -153,10 +153,6 @@ module _ {X : Type 0} (p : X → Bool) where
       (λ k d more within. high (suc k) d (omega (arith, more)) (omega (arith, within)))
       ∙ sym (ap (λ b. cond b (x ∷ filter p xs) (filter p xs)) (low 0 x (omega arith) (omega arith)))
 
-pub not_false : (b : Bool) → not b ≡ false → b ≡ true
-not_false true e = refl
-not_false false e = sym e
-
 -- what stands beside versions, at the places of those
 module _ {Y : Type 0} (g : Y → Parts) where
   as_many : (vs : List Version) (ys : List Y) → map parts_of vs ≡ map g ys → length vs ≡ length ys
@@ -195,7 +191,7 @@ module _ {Y : Type 0} (g : Y → Parts) where
       (λ n d high within. let b = beside (drop i vs) (drop i ys) rest n d within in
       subst (λ v. same_class k (class_of v) ≡ false) b.1
       (apart_above k (class_of (parts_of (get_or (drop i vs) n b.0)))
-      (not_false (is_above k (parts_of (get_or (drop i vs) n b.0)))
+      (not-false (is_above k (parts_of (get_or (drop i vs) n b.0)))
       (last.1 n b.0 high (omega (arith, within, many, long, wide)))))))
 
 -- the versions of a class lie between those below it and those above it
@@ -213,7 +209,7 @@ pub above_is : (k : Class) (vs : List Version) (i : ℕ)
     → take (length vs - i) (drop i vs) ≡ filter (λ v. is_above k (parts_of v)) vs
 above_is k vs i point = take_rest vs i ∙ from_there (λ v. is_above k (parts_of v)) vs i
     (λ n d low within. not-true (is_above k (parts_of (get_or vs n d))) (point.0 n d (omega arith) low))
-    (λ n d high within. not_false (is_above k (parts_of (get_or vs n d))) (point.1 n d high within))
+    (λ n d high within. not-false (is_above k (parts_of (get_or vs n d))) (point.1 n d high within))
 
 -- so does what is said of their candidates, which lie beside them
 pub said_between : (k : Class) (vs : List Version) (cs : List Candidate) (rs : List Record) (i j : ℕ)

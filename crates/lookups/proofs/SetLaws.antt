@@ -3,6 +3,7 @@ use Rattle.std.proofs.Common.{◌≡◌, List, [], ◌∷◌, ◌++◌, map, fil
 use Rattle.std.proofs.Common.{sym, ap, ◌∙◌}
 use Rattle.std.specs.List.{list_all}
 use Rattle.std.proofs.lemmas.List.Folds.{list_any-append, list_all-append}
+use Rattle.std.proofs.Math.Bool.{and-false}
 use Rattle.model.specs.Derivation.{both}
 use Rattle.model.specs.Vertices.{State, same_state, has_state}
 use Rattle.model.proofs.Same.{state-same}
@@ -50,14 +51,10 @@ in_both (r ∷ a) b s = by (in_both a b s) (has_state b r) refl (same_state s r)
         → has_state (cond t (r ∷ both a b) (both a b)) s ≡ ((e || has_state a s) && has_state b s)
     by rest true h true e = ap (λ x. x || has_state (both a b) s) e ∙ sym h ∙ ap (has_state b) (sym (state-same s r e))
     by rest true h false e = ap (λ x. x || has_state (both a b) s) e ∙ rest
-    by rest false h true e = rest ∙ ap (λ x. has_state a s && x) off ∙ none (has_state a s) ∙ sym off
+    by rest false h true e = rest ∙ ap (λ x. has_state a s && x) off ∙ and-false (has_state a s) ∙ sym off
       where
         off : has_state b s ≡ false
         off = ap (has_state b) (state-same s r e) ∙ h
-
-        none : (x : Bool) → (x && false) ≡ false
-        none true = refl
-        none false = refl
     by rest false h false e = rest
 
 -- a set is the union of two where it lies in either and has all of both

@@ -2,7 +2,7 @@
 use Rattle.std.proofs.Common.{◌≡◌, ℕ, List, [], ◌∷◌, ◌++◌, map, Bool, true, false, not, cond, ◌&&◌, ◌||◌, Contains}
 use Rattle.std.proofs.Common.{Option, Some, None, slice_get, refl, sym, ap, ap₂, ◌∙◌, subst, inl, inr, ◌⊎◌, true≢false}
 use Rattle.std.specs.List.{list_any}
-use Rattle.std.proofs.lemmas.Bool.{and_from, or_left, or_right}
+use Rattle.std.proofs.lemmas.Bool.{and_from, not-true, or_left, or_right}
 use Rattle.std.proofs.lemmas.Option.{none-some}
 use Rattle.semver.specs.Parse.{Parts}
 use Rattle.model.specs.Summary.{Dependency, Entry, feature, dependency, dependency_feature, weak_feature, Table}
@@ -83,11 +83,7 @@ to_passes p o x e t = ap (passes p) e ∙ t
 
 pub needed-is : (o : Owner) (d : Dependency) → is_needed o d ≡ true → IsNeeded o d
 needed-is the_root d t = tt
-needed-is (version_of name v) d t = by d.optional t
-  where
-    by : (b : Bool) → not b ≡ true → b ≡ false
-    by true t = sym t
-    by false t = refl
+needed-is (version_of name v) d t = not-true d.optional t
 
 pub to_needed : (o : Owner) (d : Dependency) → IsNeeded o d → is_needed o d ≡ true
 to_needed the_root d h = refl

@@ -2,7 +2,7 @@
 use Rattle.std.proofs.Common.{◌≡◌, List, ◌++◌, Bool, true, false, not, cond, Option, Some, None, refl, sym, ap, ◌∙◌}
 use Rattle.std.proofs.Common.{subst, true≢false}
 use Rattle.std.specs.List.{list_all, AllByRecursion}
-use Rattle.std.proofs.lemmas.Bool.{false_from_ne_true}
+use Rattle.std.proofs.lemmas.Bool.{false_from_ne_true, not-true}
 use Rattle.std.proofs.lemmas.Option.{none-some, same_Some}
 use Rattle.model.specs.Content.{Problem}
 use Rattle.model.specs.Vertices.{Vertex, State, same_vertex, has_state, space}
@@ -59,16 +59,12 @@ module _ (q : Problem) where
       by true = union-not_full w (states_at a w) (states_at b w)
       by false = meet-not_full w (states_at a w) (states_at b w) (h w) (k w)
 
-  not_true : (b : Bool) → not b ≡ true → b ≡ false
-  not_true true h = sym h
-  not_true false h = refl
-
   kept-not_full : (us : List Term) → HasNoFull q (without_full q us)
   kept-not_full us v ss e =
       let r = term_at (without_full q us) v ss e in
       let t = in_filter (λ t. not (is_full q t)) us r.0 r.1 in
       subst (λ w. is_full q (at w ss) ≡ false) (sym r.2)
-      (subst (λ l. is_full q (at (r.0).vertex l) ≡ false) r.3 (not_true (is_full q r.0) t.1))
+      (subst (λ l. is_full q (at (r.0).vertex l) ≡ false) r.3 (not-true (is_full q r.0) t.1))
 
   step-not_full : (earlier : List Step) (s : Step) → AllByRecursion (λ s. HasNoFull q (terms_of s)) earlier
       → IsStep q earlier s → HasNoFull q (terms_of s)

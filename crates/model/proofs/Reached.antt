@@ -31,9 +31,6 @@ use Rattle.model.proofs.Contents.{feature_known}
 use Rattle.model.proofs.Owners.{candidate_at-is, candidate_at-there}
 
 module _ (q : Problem) (state : Vertex → State) (ok : IsUnbroken q state) where
-  Has : Vertex → State → Type 0
-  Has v s = state v ≡ s
-
   -- the vertex has this state, and so one of a list with it
   one : (v : Vertex) (x : State) → state v ≡ x → HasOneOf (λ v s. state v ≡ s) v (x ∷ [])
   one v x e = (x, e, state_in (x ∷ []) x (in_first x []))

@@ -18,6 +18,7 @@ use Rattle.model.specs.Tables.{with_default, completed, no_such_feature, no_such
 use Rattle.model.specs.Tables.{first_with, fault_at, table_of}
 use Rattle.model.proofs.Same.{both, text-same}
 use Rattle.std.proofs.lemmas.List.Kept.{AllPairs-cons}
+use Rattle.std.proofs.lemmas.Bool.{not-false, not-true}
 use Rattle.model.proofs.Lists.{in_none, in_cons, any_of, to_any, all_first, all_rest, all_cons, pairs_one, pairs_rest}
 use Rattle.model.proofs.Lists.{pairs_all}
 use Rattle.model.proofs.Contents.{text-equal}
@@ -149,10 +150,6 @@ optional-called ds f h =
     let r = any_of (λ (e : DepName). same_text f e.name && e.optional) ds h in
     to_any (λ (e : DepName). same_text f e.name) ds r.0 r.1 (both (same_text f (r.0).name) (r.0).optional r.2).0
 
-not_true : (b : Bool) → not b ≡ true → b ≡ false
-not_true true h = sym h
-not_true false h = refl
-
 module _ (ds : List DepName) (written : Written) where
   -- an implicit feature is the name of a dependency, and isn't written
   implicit-parts : (f : List ℕ) → is_implicit ds written f ≡ true
@@ -160,7 +157,7 @@ module _ (ds : List DepName) (written : Written) where
   implicit-parts f h =
       let a = both (is_optional ds f) (not (has_dep_entry written f) && not (has_feature written f)) h in
       let b = both (not (has_dep_entry written f)) (not (has_feature written f)) a.1 in
-      (optional-called ds f a.0, not_some (entries_at f written) (not_true (has_feature written f) b.1))
+      (optional-called ds f a.0, not_some (entries_at f written) (not-true (has_feature written f) b.1))
 
   -- each feature of a completed table, and what it has
   pub entries_at-completed : (f : List ℕ) → entries_at f (completed ds written) ≡ entries_meant ds written f
@@ -250,14 +247,10 @@ built-knows ds written table h f g es at_f c =
     ap (λ t. has_feature t g) (sym b.is_completed) ∙ has_feature-completed ds written g
     ∙ by (entries_at f written) (is_implicit ds written f) (same_text f default_feature) refl meant b.features
   where
-    known : (b : Bool) → not b ≡ false → b ≡ true
-    known true n = refl
-    known false n = absurd (true≢false n)
-
     by : (o : Option (List Entry)) (i s : Bool) → entries_at f written ≡ o
         → option_or o (cond i (Some (implicit_entries f)) (cond s (Some []) None)) ≡ Some es
         → first_with (has_fault ds written no_such_feature) written ≡ None → is_feature ds written g ≡ true
-    by (Some xs) i s x e none = known (is_feature ds written g)
+    by (Some xs) i s x e none = not-false (is_feature ds written g)
         (no_entry (has_fault ds written no_such_feature) written f es (feature g) none (x ∙ e) c)
     by None true s x e none = elim (in_cons (dependency f) (feature g) []
         (subst (λ xs. Contains xs (feature g)) (sym (same_Some (implicit_entries f) es e)) c)) [

@@ -1,18 +1,17 @@
 -- A content is a valid selection exactly where that is its verdict, and it has at most one verdict.
-use Rattle.std.proofs.Common.{◌≡◌, ℕ, ◌<◌, ◌↔◌, List, length, true, cond, nat_eq, Option, Some, None, slice_get}
-use Rattle.std.proofs.Common.{is_some, false, refl, sym, ap, ap₂, ◌∙◌, subst, inl, inr, arith, true≢false}
+use Rattle.std.proofs.Common.{◌≡◌, ℕ, ◌<◌, ◌↔◌, length, true, cond, nat_eq, Option, Some, None, slice_get}
+use Rattle.std.proofs.Common.{refl, sym, ap, ap₂, ◌∙◌, subst, inl, inr, arith, true≢false}
 use Rattle.std.proofs.lemmas.Bool.{cases_order}
 use Rattle.std.proofs.lemmas.Option.{none-some, slice_get_within}
-use Rattle.model.specs.Summary.{Dependency, has_feature}
+use Rattle.model.specs.Summary.{Dependency}
 use Rattle.model.specs.Selection.{Fact, here, on, enabled, Brings, class_of, IsValidSelection, IsFact, IsPlace, IsOther}
-use Rattle.model.specs.Selection.{IsEnabled, HasTarget}
+use Rattle.model.specs.Selection.{HasTarget}
 use Rattle.model.specs.Selection.Holds.{starts, arrives, root_needs, needs, asks, root_wants, turns_on, enables}
 use Rattle.model.specs.Selection.Holds.{enables_for, wants, wants_weakly}
-use Rattle.model.specs.Content.{Problem, Content, Package, candidate_of, summary_if, summary_at, serves_if, list_if}
-use Rattle.model.specs.Content.{target_of}
+use Rattle.model.specs.Content.{Problem, Content, Package, summary_if, summary_at, serves_if, list_if}
 use Rattle.model.specs.Order.{IsContent}
 use Rattle.model.specs.Verdict.{VerdictFault, not_candidate, two_in_class, unmet, no_feature, wrong_list, unreached}
-use Rattle.model.specs.Verdict.{number_of, Verdict, valid, no_root, at_package, HasFault, IsFaultless, IsFirstFault}
+use Rattle.model.specs.Verdict.{number_of, Verdict, valid, no_root, at_package, IsFaultless, IsFirstFault}
 use Rattle.model.specs.Verdict.{IsVerdict}
 use Rattle.model.proofs.Orders.{last_is}
 
@@ -66,19 +65,6 @@ module _ (q : Problem) (content : Content) where
   within f (enables_for n i d g k h b l) = tt
   within f (wants n t i d g k h b l to) = target_within n t d to
   within f (wants_weakly n t i d g k h b l e to) = target_within n t d to
-
-  -- what shows a fault
-  pub no_candidate : (n : ℕ) (p : Package) → IsOther q content n p → candidate_of q p ≡ None
-      → HasFault q content not_candidate n
-  no_candidate n p o e free = true≢false (sym (free p o) ∙ ap is_some e)
-
-  pub no_target : (n i : ℕ) (d : Dependency) → IsEnabled q content n i d → target_of content n d ≡ None
-      → HasFault q content unmet n
-  no_target n i d h e free = let t = free i d h in none-some t.0 (sym e ∙ t.1)
-
-  pub lacks_feature : (n : ℕ) (f : List ℕ) → IsFact q content (on n f)
-      → has_feature (summary_at q content n).features f ≡ false → HasFault q content no_feature n
-  lacks_feature n f h e free = true≢false (sym (free f h) ∙ e)
 
   -- a valid selection has no fault
   faultless : IsValidSelection q content → (n : ℕ) → IsPlace q content n → IsFaultless q content n

@@ -1,17 +1,12 @@
 -- Where propagation has nothing to do, the assignment that is taken breaks no instance.
-use Rattle.std.proofs.Common.{◌≡◌, ◌≢◌, ℕ, zero, suc, ◌<◌, [], ◌∷◌, Bool, true, false, ◌&&◌, ◌||◌, Option, Some, None}
-use Rattle.std.proofs.Common.{refl, sym, ap, ◌∙◌, subst, arith}
-use Rattle.version_sets.specs.Sets.{Members, has, inside, meets, size}
+use Rattle.std.proofs.Common.{◌≡◌, ◌≢◌, ℕ, zero, suc, [], ◌∷◌, Bool, true, false, Option, Some, None}
+use Rattle.std.proofs.Common.{refl, sym, ◌∙◌, subst, arith}
+use Rattle.version_sets.proofs.Within.{has_some, meets_at}
+use Rattle.version_sets.specs.Sets.{Members, has, inside}
 use Rattle.incompatibilities.specs.Incompatibilities.{Assignment, Terms, HoldsOf, Breaks}
 use Rattle.numbering.specs.inner.Absences.{HasZero, OneZero}
 use Rattle.numbering.specs.inner.Finals.{IsFinal, IsAtRest}
 use Rattle.incompatibilities.specs.Incompatibilities.{HoldsAt}
-
-size_some : (s : Members) (i : ℕ) → has s i ≡ true → 0 < size s
-size_some [] i h = let x : false ≡ true = h in cc
-size_some (true ∷ s) i h = omega arith
-size_some (false ∷ s) zero h = let x : false ≡ true = h in cc
-size_some (false ∷ s) (suc i) h = size_some s i h
 
 inside_from : (s x : Members) → ((j : ℕ) → has s j ≡ true → has x j ≡ true) → inside s x ≡ true
 inside_from [] x h = refl
@@ -21,23 +16,12 @@ inside_from (true ∷ s) (true ∷ x) h = inside_from s x (λ j e. h (suc j) e)
 inside_from (true ∷ s) (false ∷ x) h = let z : false ≡ true = h zero refl in cc
 inside_from (false ∷ s) (y ∷ x) h = inside_from s x (λ j e. h (suc j) e)
 
-meets_at : (s x : Members) (i : ℕ) → has s i ≡ true → has x i ≡ true → meets s x ≡ true
-meets_at [] x i h k = let z : false ≡ true = h in cc
-meets_at (a ∷ s) [] i h k = let z : false ≡ true = k in cc
-meets_at (a ∷ s) (b ∷ x) zero h k = let e : a ≡ true = h in let f : b ≡ true =
-    k in ap (λ c. (c && b) || meets s x) e ∙ ap (λ c. c || meets s x) f
-meets_at (a ∷ s) (b ∷ x) (suc i) h k = by (a && b) (meets_at s x i h k)
-  where
-    by : (c : Bool) → meets s x ≡ true → (c || meets s x) ≡ true
-    by true e = refl
-    by false e = e
-
 module _ (sets : ℕ → Members) (f : Terms) (x : Assignment)
     (final : (u : ℕ) (s : Members) → f u ≡ Some s → IsFinal (sets u) (x u)) where
   one_left : (u : ℕ) (s : Members) → f u ≡ Some s → x u ≢ 0 → has s (x u) ≡ true → HoldsAt (sets u) (Some s)
   one_left u s e n h =
       let r = final u s e in (
-        size_some (sets u) (x u) r.left,
+        has_some (sets u) (x u) r.left,
         inside_from (sets u) s (λ j k. subst (λ i. has s i ≡ true) (sym (r.alone n j k)) h),
       )
 
@@ -58,7 +42,7 @@ module _ (sets : ℕ → Members) (f : Terms) (x : Assignment)
 
       at_zero : (u : ℕ) (s : Members) → f u ≡ Some s → x u ≡ 0 → (c : Bool) → inside (sets u) s ≡ c
           → HoldsAt (sets u) (Some s)
-      at_zero u s e z true i = (size_some (sets u) (x u) (final u s e).left, i)
+      at_zero u s e z true i = (has_some (sets u) (x u) (final u s e).left, i)
       at_zero u s e z false i = absurd (rest.not_one u s (record {
         term = e;
         common = meets_at (sets u) s (x u) (final u s e).left (broken_has b u s e);

@@ -1,12 +1,11 @@
 -- What is kept stays right, where one more is kept.
-use Rattle.std.proofs.Common.{◌≡◌, Bool, true, false, cond, List, Some, Result, Ok, Err, OnOk, OnErr, Vec, map, refl}
+use Rattle.std.proofs.Common.{◌≡◌, true, List, Some, Result, OnOk, OnErr, Vec, map}
 use Rattle.std.proofs.Common.{sym, ap, ap₂, ◌∙◌, subst, ℕ, Option, None, IfSome, drop, take, ◌-◌}
 use Rattle.std.specs.Borrow.{Bor}
 use Rattle.std.specs.Option.{ForSome}
 use Rattle.std.specs.Slice.{IsGetRangeResult}
 use Rattle.std.proofs.lemmas.List.{drop-map, take-map}
-use Rattle.std.specs.HashMap.{HashMap, IsUnchanged, Updates, get}
-use Rattle.std.specs.Map.{lookup}
+use Rattle.std.specs.HashMap.{HashMap, IsUnchanged, Updates}
 use Rattle.std.specs.declared.alloc.Global.{Global}
 use Rattle.std.proofs.lemmas.Option.{same_Some}
 use Rattle.classes.specs.Classes.{class_view}
@@ -23,31 +22,8 @@ use Rattle.numbering.specs.inner.Indexed.{AreBrought, IsBrought, same_ref}
 use Rattle.numbering.specs.declared.matched.Kept.{Kept}
 use Rattle.numbering.specs.inner.Matched.{AreMatched, AreNamed, Ask, IsMatched, IsNamed, IsOfReleases, classes_asked}
 use Rattle.numbering.specs.inner.Matched.{kept_classes, name_classes, same_ask, same_name}
-use Rattle.numbering.proofs.Requirements.{requirement-same}
-
--- ---- of any values that are right for their keys
-
-module _ {K V S : Type 0} (same : K → K → Bool) (Is : K → V → Type 0)
-    (alike : (k l : K) (v : V) → same k l ≡ true → Is k v → Is l v) where
-  abbrev AreRight : HashMap K V S → Type 0
-  AreRight m = (k : K) (v : V) → get same m k ≡ Some v → Is k v
-
-  same_kept : (m after : HashMap K V S) → IsUnchanged m after → AreRight m → AreRight after
-  same_kept m after e are k v got = are k v (sym (ap (lookup (same k)) e) ∙ got)
-
-  more_kept : (m after : HashMap K V S) (k : K) (v : V) → AreRight m → Is k v
-      → Updates same m after k (Some v) → AreRight after
-  more_kept m after k v are one u l w got = by (same k l) refl (sym (u.0 l) ∙ got)
-    where
-      by : (b : Bool) → same k l ≡ b → cond b (Some v) (get same m l) ≡ Some w → Is l w
-      by true e f = alike k l w e (subst (Is k) (same_Some v w f) one)
-      by false e f = are l w f
-
-  -- after one is put there, or isn't for want of memory
-  kept_after : {X E : Type 0} (m after : HashMap K V S) (k : K) (v : V) (r : Result X E)
-      → OnOk r (Updates same m after k (Some v)) → OnErr r (IsUnchanged m after) → AreRight m → Is k v → AreRight after
-  kept_after m after k v (Ok x) u e are one = more_kept m after k v are one u
-  kept_after m after k v (Err x) u e are one = same_kept m after e are
+use Rattle.features.proofs.Requirements.{requirement-same}
+use Rattle.lookups.proofs.Kept.{kept_after}
 
 -- ---- of classes
 

@@ -26,7 +26,6 @@ pub mod AddLaws
 pub mod StateNumbers
 pub mod Stated
 pub mod Adds
-pub mod Requirements
 pub mod Keeping
 pub mod Alone
 pub mod RangeLaws

@@ -76,13 +76,6 @@ versions_counted m c name k vs is =
     one ∙ ap suc (sym (length-map (map parts_of vs) version ∙ length-map vs parts_of))
     ∙ ap (λ (ss : List State). suc (length ss)) (sym (states_here m c name k vs is))
 
-pub classes_counted : (q : Problem) (o : Owner) (i : ℕ) (ks : List code.Class) → map class_view ks ≡ classes_at q o i
-    → length ks + 1 ≡ length (space q (dep o i))
-classes_counted q o i ks are =
-    let one : length ks + 1 ≡ suc (length ks) = omega arith in
-    one ∙ ap suc (sym (length-map ks class_view) ∙ ap (λ (l : List Class). length l) are
-    ∙ sym (length-map (classes_at q o i) in_class)) ∙ ap (λ (ss : List State). length ss) (classes_space q o i)
-
 pub classes_long : (q : Problem) (o : Owner) (i : ℕ) → length (classes_at q o i) + 1 ≡ length (space q (dep o i))
 classes_long q o i =
     let one : length (classes_at q o i) + 1 ≡ suc (length (classes_at q o i)) = omega arith in

@@ -1,6 +1,7 @@
 -- Tests of a space are the sets of states that terms have.
-use Rattle.std.proofs.Common.{◌≡◌, ◌⊎◌, ℕ, List, [], ◌∷◌, map, filter, Bool, true, false, cond, not, ◌||◌, Contains}
+use Rattle.std.proofs.Common.{◌≡◌, ◌⊎◌, ℕ, List, [], ◌∷◌, map, filter, Bool, true, false, cond, not, Contains}
 use Rattle.std.proofs.Common.{Option, Some, None, slice_get, refl, sym, ap, ap₂, ◌∙◌, subst, inl, inr, true≢false}
+use Rattle.std.proofs.Math.Bool.{or-false}
 use Rattle.std.specs.List.{AllPairs}
 use Rattle.semver.specs.Parse.{Parts}
 use Rattle.semver.specs.EvalViews.{matches_views}
@@ -46,10 +47,6 @@ module _ {X : Type 0} where
   filter_along f g (x ∷ xs) h =
       ap (λ b. cond b (x ∷ filter f xs) (filter f xs)) (h x (in_first x xs))
       ∙ ap (λ ys. cond (g x) (x ∷ ys) ys) (filter_along f g xs (λ y c. h y (in_rest x y xs c)))
-
-or_none : (b : Bool) → (b || false) ≡ b
-or_none true = refl
-or_none false = refl
 
 -- ---- the versions of a class
 
@@ -104,7 +101,7 @@ module _ (m : ManifestView) (c : CatalogueView) (name : List ℕ) (k : Class) (v
   pub chosen_is : (v : Parts)
       → false ∷ map (λ w. is_chosen v (parts_of w)) vs ≡ members_at (problem_in m c) (pkg name k) (version v ∷ [])
   unfolding is_chosen
-  chosen_is v = tests_are (version v ∷ []) false (λ p. same_version p v) refl (λ p i. or_none (same_version p v))
+  chosen_is v = tests_are (version v ∷ []) false (λ p. same_version p v) refl (λ p i. or-false (same_version p v))
 
 pub left_is : (m : ManifestView) (c : CatalogueView) (d : Dependency) (k : Class) (vs : List Version)
     → map parts_of vs ≡ filter (is_of k) (map (λ r. r.version) (candidates_at c d.real_name))
@@ -192,7 +189,7 @@ module _ (q : Problem) (o : Owner) (i : ℕ) where
   unfolding is_class
   class_is k =
       ap (λ l. false ∷ l) (map_along (λ m. same_class m k) (λ m. has_state (in_class k ∷ []) (in_class m))
-      (classes_at q o i) (λ m c. sym (or_none (same_class m k))))
+      (classes_at q o i) (λ m c. sym (or-false (same_class m k))))
       ∙ sym (members_dep (in_class k ∷ []))
 
 -- ---- the same where a class is spelt another way

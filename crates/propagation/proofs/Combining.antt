@@ -83,7 +83,8 @@ inside_first (true ∷ bs) (true ∷ xs) (false ∷ ys) h = absurd (false≢true
 inside_first (true ∷ bs) (false ∷ xs) (y ∷ ys) h = h
 inside_first (false ∷ bs) (x ∷ xs) (y ∷ ys) h = inside_first bs xs ys h
 
-meet_full : (x y : Members) → length x ≡ length y → is_full (meet x y) ≡ true → is_full x ≡ true
+-- an intersection is full only if both are
+pub meet_full : (x y : Members) → length x ≡ length y → is_full (meet x y) ≡ true → is_full x ≡ true
 meet_full [] y e h = refl
 meet_full (x ∷ xs) [] e h = absurd (omega (arith, e))
 meet_full (true ∷ xs) (true ∷ ys) e h = meet_full xs ys (omega (arith, e)) h

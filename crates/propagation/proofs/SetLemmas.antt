@@ -2,6 +2,7 @@
 use Rattle.std.proofs.Common.{◌≡◌, ℕ, zero, suc, ◌<◌, ◌≤◌, true, false, [], ◌∷◌, List, length, set, refl, sym, ◌∙◌}
 use Rattle.std.proofs.Common.{arith, inl, inr}
 use Rattle.std.proofs.lemmas.Bool.{cases_Bool, false≢true, true≢false}
+use Rattle.version_sets.proofs.Within.{has_some}
 use Rattle.version_sets.specs.Sets.{Members, every, has, inside, is_full, meet, meets, none, only, rest, size}
 use Rattle.propagation.specs.Trails.{set_of, total}
 
@@ -133,12 +134,6 @@ inside_size (true ∷ s) (true ∷ x) h = omega (arith, inside_size s x h)
 inside_size (true ∷ s) (false ∷ x) h = absurd (false≢true h)
 inside_size (false ∷ s) (true ∷ x) h = omega (arith, inside_size s x h)
 inside_size (false ∷ s) (false ∷ x) h = inside_size s x h
-
-pub has_some : (s : Members) (i : ℕ) → has s i ≡ true → 0 < size s
-has_some [] i h = absurd (false≢true h)
-has_some (true ∷ s) i h = omega arith
-has_some (false ∷ s) zero h = absurd (false≢true h)
-has_some (false ∷ s) (suc i) h = has_some s i h
 
 -- a set that is not empty, inside a set of one number, has that number
 pub only_inside : (s x : Members) (i : ℕ) → inside s x ≡ true → size x ≡ 1 → has x i ≡ true

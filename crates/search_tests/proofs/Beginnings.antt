@@ -9,7 +9,7 @@ use Rattle.incompatibilities.specs.Stores.{EntryView, terms_of}
 use Rattle.propagation.specs.Satisfaction.{Agrees}
 use Rattle.propagation.specs.Promises.{IsNew, IsTrail, LieIn}
 use Rattle.propagation.specs.Trails.{TrailView, set_of, space_of}
-use Rattle.propagation.proofs.SetLemmas.{has_some}
+use Rattle.version_sets.proofs.Within.{has_some}
 use Rattle.propagation.proofs.Vertices.{in_range}
 use Rattle.guiding.specs.inner.Searching.{HasSpaces, Pairs}
 use Rattle.guiding.specs.inner.Turning.{HasEnded}

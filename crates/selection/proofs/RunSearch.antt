@@ -10,7 +10,7 @@ use Rattle.std.specs.Option.{option_or}
 use Rattle.std.specs.declared.alloc.Global.{Global}
 use Rattle.std.specs.declared.cmp.Ordering.TheVariants.{Less}
 use Rattle.std.proofs.Math.Seq.{drop-cons, take-length}
-use Rattle.std.proofs.lemmas.Bool.{cases_lt, ltb-true}
+use Rattle.std.proofs.lemmas.Bool.{cases_lt, ltb-true, not-false}
 use Rattle.std.proofs.lemmas.List.{append-nil, append_assoc, map-append, take_more, take_rest}
 use Rattle.std.proofs.lemmas.List.Elements.{All-push}
 use Rattle.std.proofs.lemmas.List.Folds.{concat-append, find-append}
@@ -31,7 +31,6 @@ use Rattle.catalogue.specs.Stores.{CatalogueView}
 use Rattle.catalogue.proofs.Bounded.{beyond_after, not_beyond, not_short, short_before}
 use Rattle.selection.specs.inner.Met.{AreOrders, AreRising, AreRuns, IsFalling, first_matched, is_lower}
 use Rattle.selection.specs.inner.Met.{is_lower_than, is_matched, is_too_new, is_too_old, order_at, run_views}
-use Rattle.selection.proofs.TargetSearch.{not_false}
 
 -- ---- the runs of an order
 
@@ -229,7 +228,7 @@ module _ (cs : List Held) (ps : List Parts) where
       → first_matched cs ps (take j (take (length ns - i) (drop i ns))) ≡ first_matched cs ps ns
   narrowed ns i j first = rw (take_rest ns i) (λ last.
       cut Matched (drop i ns) j
-      (λ k d low within. let n = get_or (drop i ns) k d in old_fails n (not_false (Old n) (last.1 k d low within)))
+      (λ k d low within. let n = get_or (drop i ns) k d in old_fails n (not-false (Old n) (last.1 k d low within)))
       ∙ skipped Matched ns i (λ k d low within. new_fails (get_or ns k d) (first.0 k d (omega arith) low)))
 
 pub new_parted : (cs : List Held) (vs : List Version) → AreRising vs → (ns : List ℕ) → IsFalling ns

@@ -7,7 +7,7 @@ use Rattle.std.specs.List.{All, AllPairs, AllWithin}
 use Rattle.std.specs.List.Sorted.{IsPartitionedBy, IsNonDecreasingBy}
 use Rattle.std.specs.Ordering.{is_lt, nat_cmp, ordering_index, ordering_then}
 use Rattle.std.specs.declared.cmp.Ordering.TheVariants.{Less, Equal, Greater}
-use Rattle.std.proofs.lemmas.Bool.{cases_lt}
+use Rattle.std.proofs.lemmas.Bool.{cases_lt, not-false}
 use Rattle.std.proofs.lemmas.Map.Lookups.{exact_bytes, exact_unsigned}
 use Rattle.std.proofs.lemmas.Option.{slice_get-get_or, get_or_from_slice_get}
 use Rattle.semver.specs.EvalViews.{matches_views}
@@ -24,10 +24,6 @@ use Rattle.catalogue.specs.inner.Bounds.{is_beyond}
 use Rattle.catalogue.proofs.Bounded.{beyond_after, not_beyond}
 use Rattle.selection.specs.inner.Names.{is_past, name_cmp, past_by}
 use Rattle.selection.proofs.NameOrder.{names_rise}
-
-pub not_false : (b : Bool) → not b ≡ false → b ≡ true
-not_false true e = refl
-not_false false e = sym e
 
 both_equal : (a b : Ordering) → ordering_then a b ≡ Equal → (a ≡ Equal) × (b ≡ Equal)
 both_equal Less b e = let no : Less ≡ Equal = e in cc
@@ -185,7 +181,7 @@ module _ (content : Content) (d : Dependency) where
       of_package : (p : Package) (o : Ordering) → text_cmp p.name d.real_name ≡ o
           → not (past_by o (is_beyond d.requirement p.version)) ≡ false → serves_if d (Some p) ≡ false
       of_package p Less e h = absurd (true≢false h)
-      of_package p Equal e h = too_new p (not_false (is_beyond d.requirement p.version) h)
+      of_package p Equal e h = too_new p (not-false (is_beyond d.requirement p.version) h)
       of_package p Greater e h = other_name i (text-equal d.real_name d.real_name refl) (Some p)
           (λ same. let no : Greater ≡ Equal = sym e ∙ same in cc)
 

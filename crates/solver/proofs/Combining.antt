@@ -21,7 +21,8 @@ use Rattle.model.specs.Derivation as model
 use Rattle.numbering.specs.Numberings.{Numbering, IsNumbering}
 use Rattle.numbering.proofs.Distinct.{states_once}
 use Rattle.solver.specs.inner.Decoding.{states_in, terms_of, sizes, IsOver}
-use Rattle.solver.proofs.Sets.{joined, met, full_states, full_meet}
+use Rattle.propagation.proofs.Combining.{meet_full}
+use Rattle.solver.proofs.Sets.{joined, met, full_states}
 use Rattle.solver.proofs.Decoded.{same_number, said, unsaid, long_at}
 use Rattle.solver.proofs.Unique.{by_number, same_self}
 
@@ -84,7 +85,7 @@ module _ (q : Problem) (vs : Numbering) (known : IsCatalogue q) (ok : IsNumberin
           let lx = long_in a over_a x f in
           let ly = long_in b over_b y g in
           let not_full : sets.is_full (meet x y) ≡ false = false_from_ne_true (sets.is_full (meet x y))
-          (λ h. some_kept x (kept_in a over_a (Some x) f) (full_meet x y (lx ∙ sym ly) h)) in
+          (λ h. some_kept x (kept_in a over_a (Some x) f) (meet_full x y (lx ∙ sym ly) h)) in
           subst (λ t. SameAt (seen (cond t None (Some (meet x y)))) (meet_at (seen (Some x)) (seen (Some y))))
           (sym not_full) (met (space q w) (states_once q known w) x y lx ly)
 

@@ -3,7 +3,7 @@ use Rattle.std.proofs.Common.{◌≡◌, ◌<◌, ◌≤◌, ℕ, zero, suc, [],
 use Rattle.std.proofs.Common.{true≢false}
 use Rattle.std.proofs.lemmas.Option.{slice_get_within}
 use Rattle.version_sets.specs.Sets.{Members, has, size}
-use Rattle.propagation.proofs.SetLemmas.{has_some}
+use Rattle.version_sets.proofs.Within.{has_some}
 use Rattle.model.specs.Vertices.{Vertex}
 use Rattle.numbering.specs.Numberings.{Numbering, number_in}
 use Rattle.numbering.proofs.Places.{number_at}

@@ -7,13 +7,14 @@ use Rattle.std.proofs.lemmas.Bool.{cases_lt}
 use Rattle.std.proofs.lemmas.List.{append-nil, get_or_append_left, get_or-map, length-append, length-map}
 use Rattle.version_sets.specs.Sets.{Members, has}
 use Rattle.terms.specs.Terms.{TermView}
-use Rattle.incompatibilities.specs.inner.Counts.{axioms, combinations, given_in, links_in}
+use Rattle.incompatibilities.specs.inner.Counts.{axioms, combinations, given_in}
 use Rattle.incompatibilities.specs.inner.Chains.{ChainView}
 use Rattle.incompatibilities.specs.Incompatibilities.{Fit, IsCombination, LiesIn, states_at}
 use Rattle.incompatibilities.specs.Stores.{ComesOut, EntryView, OriginFits, entry, terms_of, touches}
 use Rattle.incompatibilities.specs.declared.chain.Link.{Link}
 use Rattle.incompatibilities.specs.declared.origin.Origin.TheVariants as origins
 use Rattle.incompatibilities.proofs.Broken.{lies_fit}
+use Rattle.guiding.proofs.Counts.{one_further}
 use Rattle.solver.specs.declared.flat.Flat.{Flat}
 use Rattle.solver.specs.declared.flat.Source.{Source}
 use Rattle.solver.specs.declared.flat.Source.TheVariants.{Axiom, Combined}
@@ -98,12 +99,6 @@ combined_append (x ∷ xs) ys = omega (arith, combined_append xs ys)
 pub given_append : (xs ys : List FlatView) → given_of (xs ++ ys) ≡ given_of xs + given_of ys
 given_append [] ys = omega arith
 given_append (x ∷ xs) ys = omega (arith, given_append xs ys)
-
-combinations_next : (es : List EntryView) (k : ℕ) → k < length es
-    → combinations (take (suc k) es) ≡ combinations (take k es) + links_in (entry es k).origin
-combinations_next [] k lt = absurd (omega (arith, lt))
-combinations_next (e ∷ es) zero lt = omega arith
-combinations_next (e ∷ es) (suc k) lt = omega (arith, combinations_next es k (omega (arith, lt)))
 
 axioms_next : (es : List EntryView) (k : ℕ) → k < length es
     → axioms (take (suc k) es) ≡ axioms (take k es) + given_in (entry es k).origin
@@ -288,7 +283,7 @@ unrolling_more es fs new ms n p places more true within here was put grown = rec
     gained,
     ap combined_in put.grown,
     combined_append fs put.gained,
-    combinations_next es n within,
+    one_further es n within,
   ));
   few_given = (let few = was.few_given in let gained = put.given in omega (
     arith,
@@ -316,7 +311,7 @@ unrolling_more es fs new ms n p places more false within here was same grown = r
   long = (let l = was.long in omega (arith, l, ap length grown, length-append places (p ∷ [])));
   ends = λ k e h. let e2 : k ≡ n = omega (arith, e) in absurd (apart (sym h ∙ ap (has ms) e2 ∙ here));
   few_combined = (let few = was.few_combined in
-      omega (arith, few, ap combined_in same, combinations_next es n within));
+      omega (arith, few, ap combined_in same, one_further es n within));
   few_given = (let few = was.few_given in omega (arith, few, ap given_of same, axioms_next es n within));
 }
   where

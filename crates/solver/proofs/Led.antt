@@ -173,10 +173,6 @@ module _ (q : Problem) (state : Vertex → State) (index : CatalogueView) (o : O
     pub led : (i : ℕ) (d : Dependency) (p : Option ℕ) → slice_get ds i ≡ Some d → slice_get places i ≡ Some p
         → IsLed q state index o i d p
 
-  pub none_led : (ds : List Dependency) (places : List (Option ℕ)) → places ≡ [] → LedTo ds 0 places
-  none_led ds places e =
-      record { many = ap length e; led = λ i d p got at. absurd (none-some p (sym (ap (λ l. slice_get l i) e) ∙ at)) }
-
   pub one_led : (ds : List Dependency) (n : ℕ) (places more : List (Option ℕ)) (d : Dependency) (p : Option ℕ)
       → LedTo ds n places → slice_get ds n ≡ Some d → IsLed q state index o n d p
       → more ≡ places ++ p ∷ [] → LedTo ds (n + 1) more
@@ -193,10 +189,6 @@ module _ (q : Problem) (state : Vertex → State) (index : CatalogueView) (o : O
               (subst (λ x. IsLed q state index o n x p') same (subst (IsLed q state index o n d) last.1 led))
         ];
       }
-
-  pub all_led : (ds : List Dependency) (n : ℕ) (places : List (Option ℕ)) → LedTo ds n places → n ≡ length ds
-      → AreLed q state index o ds places
-  all_led ds n places h e = record { as_many = h.many ∙ e; led = h.led }
 
   -- a candidate stands where one leads
   pub led_there : (ds : List Dependency) (places : List (Option ℕ)) → AreLed q state index o ds places

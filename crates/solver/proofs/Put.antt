@@ -2,14 +2,14 @@
 use Rattle.std.proofs.Common.{◌≡◌, ℕ, ◌+◌, List, [], ◌∷◌, ◌++◌, length, Option, Some, None, slice_get, is_some, sym, ap}
 use Rattle.std.proofs.Common.{◌∙◌, subst, inl, inr, arith}
 use Rattle.std.proofs.lemmas.List.{length-append}
-use Rattle.std.proofs.lemmas.Option.{same_Some, none-some}
+use Rattle.std.proofs.lemmas.Option.{same_Some}
 use Rattle.model.specs.Summary.{Dependency}
 use Rattle.model.proofs.Places.{get_push_cases}
 use Rattle.catalogue.specs.Stores.{CatalogueView}
 use Rattle.selection.specs.inner.Contents.{Grows, IsCandidate, candidate_owner}
 use Rattle.selection.specs.declared.met.MetVersion.{MetVersion}
-use Rattle.selection.proofs.MetVersions.{grows_on, owner_on, unchanged}
-use Rattle.solver.specs.inner.Leads.{ArePut, AreThere, IsPut}
+use Rattle.selection.proofs.MetVersions.{grows_on, owner_on}
+use Rattle.solver.specs.inner.Leads.{AreThere, IsPut}
 
 module _ (index : CatalogueView) where
   -- a candidate that is there can be put
@@ -33,14 +33,6 @@ module _ (index : CatalogueView) where
     pub put : (i : ℕ) (d : Dependency) (p target : Option ℕ) → slice_get ds i ≡ Some d → slice_get places i ≡ Some p
         → slice_get targets i ≡ Some target → IsPut index new d.real_name p target
 
-  pub none_put : (old : List MetVersion) (ds : List Dependency) (places targets : List (Option ℕ)) → targets ≡ []
-      → PutTo old old ds places 0 targets
-  none_put old ds places targets e = record {
-    grows = unchanged index old;
-    many = ap length e;
-    put = λ i d p target got there at. absurd (none-some target (sym (ap (λ l. slice_get l i) e) ∙ at));
-  }
-
   pub one_put : (old mid new : List MetVersion) (ds : List Dependency) (places : List (Option ℕ)) (n : ℕ)
       (targets more : List (Option ℕ)) (d : Dependency) (p target : Option ℕ)
       → PutTo old mid ds places n targets → Grows index mid new → slice_get ds n ≡ Some d → slice_get places n ≡ Some p
@@ -62,8 +54,3 @@ module _ (index : CatalogueView) where
                   IsPut index new d.real_name x t') beside (subst (IsPut index new d.real_name p) last.1 is))
             ];
       }
-
-  pub all_put : (old new : List MetVersion) (ds : List Dependency) (places : List (Option ℕ)) (n : ℕ)
-      (targets : List (Option ℕ)) → PutTo old new ds places n targets → n ≡ length ds
-      → ArePut index new ds places targets
-  all_put old new ds places n targets h e = record { as_many = h.many ∙ e; put = h.put }

@@ -154,11 +154,3 @@ module _ (ss : List State) (once : AllPairs (λ s r. s ≢ r) ss) where
 
 pub full_tests : (us ss : List State) → is_full (map (has_state us) ss) ≡ list_all (has_state us) ss
 full_tests us ss = all_map (has_state us) ss
-
--- an intersection is full only if both are
-pub full_meet : (x y : Members) → length x ≡ length y → is_full (meet x y) ≡ true → is_full x ≡ true
-full_meet [] y e h = refl
-full_meet (a ∷ x) [] e h = absurd (omega (arith, e))
-full_meet (a ∷ x) (b ∷ y) e h =
-    let p = and_parts (a && b) (is_full (meet x y)) h in
-    and_from a (is_full x) (and_parts a b p.0).0 (full_meet x y (omega (arith, e)) p.1)

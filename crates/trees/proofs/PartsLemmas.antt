@@ -5,7 +5,7 @@ use Rattle.std.proofs.Common.{◌∙◌, subst, arith, IsUtf8, append-nil}
 use Rattle.std.specs.Prelude.{codes}
 use Rattle.std.specs.Option.{option_or}
 use Rattle.std.specs.Str.{is_utf8}
-use Rattle.std.proofs.lemmas.Bool.{and_parts, false≢true, leb-true, eqb-false, lt-ltb}
+use Rattle.std.proofs.lemmas.Bool.{and_parts, eqb-false, false≢true, leb-true, lt-ltb, not-true}
 use Rattle.std.proofs.lemmas.Str.{IsUtf8-append, IsUtf8-from_is_utf8, IsUtf8-past_char, encode_ascii}
 use Rattle.json.specs.Token.{Token, begin_object, key, string}
 use Rattle.json.specs.Text.{content, plain}
@@ -48,13 +48,9 @@ a_plain_byte x h =
     record {
       from = leb-true 32 x r.0;
       to = leb-true x 126 r.1;
-      no_quote = un_not (x == 34) q.1;
-      no_backslash = un_not (x == 92) p.1;
+      no_quote = not-true (x == 34) q.1;
+      no_backslash = not-true (x == 92) p.1;
     }
-  where
-    un_not : (b : Bool) → not b ≡ true → b ≡ false
-    un_not true h = absurd (false≢true h)
-    un_not false h = refl
 
 -- plain text is not escaped
 escape_plain : (s : List ℕ) → is_plain s ≡ true → escape s ≡ s

@@ -3,6 +3,7 @@ use Rattle.std.proofs.Common.{◌≡◌, ℕ, zero, suc, ◌≤◌, List, [], �
 use Rattle.std.proofs.Common.{Option, Some, None, is_some, option_map, option_and_then, unwrap_or}
 use Rattle.std.specs.Prelude.{IfNone}
 use Rattle.std.proofs.Common.{Bor, refl, sym, ap, ◌∙◌, subst, arith, append_assoc, length-append}
+use Rattle.std.proofs.Math.Bool.{and-true}
 use Rattle.json.specs.Token.{Token}
 use Rattle.json.specs.Json.{Json, null, boolean, number, string, array, object, Items, no_items, item, Members}
 use Rattle.json.specs.Json.{no_members, member, Parse, parse_map, after_end_array, read_key, items_step, members_step}
@@ -390,10 +391,6 @@ mutual
   depth-members_fit no_members n h = refl
   depth-members_fit (member k j ms) n h = and_same (fits j n) (members_fit_in ms n) (numbers_fit j) (members_fit ms)
       (depth-fits j n (omega (arith, h))) (depth-members_fit ms n (omega (arith, h)))
-
-and-true : (b : Bool) → (b && true) ≡ b
-and-true true = refl
-and-true false = refl
 
 fit-whole : (j : Json) (n : ℕ) → fit_within n (json_tokens j ++ []) ≡ fits j n
 unfolding fit_within

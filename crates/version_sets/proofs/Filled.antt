@@ -11,6 +11,7 @@ use Rattle.std.proofs.lemmas.Nat.{and_le_l}
 use Rattle.std.proofs.lemmas.Nat.Bits.{bit_at-lt, bit_at-pow_other, bit_at-pow_same, bit_at-zero, bit_at_ones}
 use Rattle.std.proofs.lemmas.Nat.Bits.{bit_at_ones_above, same_from_bits_below}
 use Rattle.std.proofs.lemmas.Simd.{bit_mask_l, mask_l-lt, ones-mask_l}
+use Rattle.std.proofs.Math.Bool.{and-false, and-true}
 use Rattle.std.specs.Int.{bit_at, bit_not, w64}
 use Rattle.std.specs.Int.RustNames.{count_ones}
 use Rattle.std.specs.List.{range_with_len}
@@ -39,13 +40,9 @@ module _ (n : ℕ) (ws : List ℕ) (r c v : ℕ) (long : length ws ≡ r + 1) (r
   pub trim_has : (i : ℕ) → i < n → has_bit (set ws r v) i ≡ has_bit ws i
   trim_has i low = elim (cases_eq (i / 64) r) [
     | inl e ↦ at_last i e ∙ ap (λ b. has_bit ws i && b) (ap (λ k. eqb k 1) (bit_at_ones c (i % 64) (omega arith)))
-        ∙ and_true (has_bit ws i)
+        ∙ and-true (has_bit ws i)
     | inr o ↦ at_other i o
   ]
-    where
-      and_true : (b : Bool) → (b && true) ≡ b
-      and_true true = refl
-      and_true false = refl
 
   pub trim_is : n ≤ 65536 → ((k : ℕ) → get_or ws k 0 < 2 ^ 64) → IsWords n (set ws r v)
   trim_is small fits = record {
@@ -59,17 +56,13 @@ module _ (n : ℕ) (ws : List ℕ) (r c v : ℕ) (long : length ws ≡ r + 1) (r
     ];
     clear = λ i past. elim (cases_order (i / 64) r) [
       | inl e ↦ at_last i e ∙ ap (λ b. has_bit ws i && b)
-          (ap (λ k. eqb k 1) (bit_at_ones_above c (i % 64) (omega arith))) ∙ and_false (has_bit ws i)
+          (ap (λ k. eqb k 1) (bit_at_ones_above c (i % 64) (omega arith))) ∙ and-false (has_bit ws i)
       | inr o ↦ elim o [
         | inl low ↦ absurd (omega arith)
         | inr high ↦ none_past (set ws r v) i (omega (arith, length-set ws r v))
       ]
     ];
   }
-    where
-      and_false : (b : Bool) → (b && false) ≡ false
-      and_false true = refl
-      and_false false = refl
 
 pub word_fits : (x : ℕ) → x < 2 ^ 64 → (k : ℕ) → get_or (x ∷ []) k 0 < 2 ^ 64
 word_fits x h zero = h

@@ -2,7 +2,7 @@
 use Rattle.std.proofs.Common.{◌≡◌, ◌≢◌, ℕ, ◌+◌, ◌-◌, ◌*◌, ◌^◌, ◌<◌, ◌≤◌, Bool, true, false, not}
 use Rattle.std.proofs.Common.{◌&&◌, ◌||◌, eqb, length, min, get_or, bit_and, bit_or, refl, ap, ap₂, sym}
 use Rattle.std.proofs.Common.{◌∙◌, arith, inl, inr}
-use Rattle.std.proofs.Math.Bool.{and-true}
+use Rattle.std.proofs.Math.Bool.{and-false, and-true}
 use Rattle.std.proofs.Math.Dec.{ltb}
 use Rattle.std.proofs.Math.Nat.{pow-le-pow_right}
 use Rattle.std.proofs.lemmas.Bool.{cases_lt, le-ltb, lt-ltb}
@@ -91,19 +91,15 @@ and_not_bitwise = record {
   nothing = refl;
 }
 
-and_false : (b : Bool) → (b && false) ≡ false
-and_false true = refl
-and_false false = refl
-
 under_test : (g : Bool → Bool → Bool) → g false false ≡ false → (p q t : Bool) → g (p && t) (q && t) ≡ (g p q && t)
 under_test g e true true true = sym (and-true (g true true))
 under_test g e true false true = sym (and-true (g true false))
 under_test g e false true true = sym (and-true (g false true))
 under_test g e false false true = sym (and-true (g false false))
-under_test g e true true false = e ∙ sym (and_false (g true true))
-under_test g e true false false = e ∙ sym (and_false (g true false))
-under_test g e false true false = e ∙ sym (and_false (g false true))
-under_test g e false false false = e ∙ sym (and_false (g false false))
+under_test g e true true false = e ∙ sym (and-false (g true true))
+under_test g e true false false = e ∙ sym (and-false (g true false))
+under_test g e false true false = e ∙ sym (and-false (g false true))
+under_test g e false false false = e ∙ sym (and-false (g false false))
 
 pub flanks_are : (f : ℕ → ℕ → ℕ) (g : Bool → Bool → Bool) → IsBitwise f g → (n : ℕ) (p q : Bool) (k : ℕ)
     → f (flank_word n p k) (flank_word n q k) ≡ flank_word n (g p q) k

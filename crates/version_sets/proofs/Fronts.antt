@@ -3,16 +3,14 @@ use Rattle.std.proofs.Common.{◌≡◌, ℕ, zero, suc, ◌+◌, ◌<◌, ◌�
 use Rattle.std.proofs.Common.{length, take, drop, get_or, set, map, bit_and, bit_or, refl, ap, ap₂, sym, ◌∙◌, arith}
 use Rattle.std.proofs.Common.{eq-eqb, inl, inr}
 use Rattle.std.proofs.Math.Bool.{and-true}
-use Rattle.std.proofs.Math.Seq.{drop-cons}
 use Rattle.std.proofs.lemmas.Bool.{cases_eq, ne_eqb}
 use Rattle.std.proofs.lemmas.List.{length-map, length-take}
 use Rattle.std.proofs.lemmas.Nat.{and_le_l, and_le_r}
 use Rattle.std.specs.Int.{bit_not, w64}
 use Rattle.std.specs.Int.Bits.{or_add_and}
 use Rattle.std.proofs.lemmas.Simd.{chunk-drop, length-chunk, length-zip2, put_chunk_is}
-use Rattle.std.specs.Int.RustNames.{count_ones}
 use Rattle.std.specs.Simd.Lanes.{chunk, fold_l, put_chunk, zip2}
-use Rattle.version_sets.specs.inner.Words.{all_zero, and_not, ones_in}
+use Rattle.version_sets.specs.inner.Words.{all_zero, and_not}
 
 module _ (f : ℕ → ℕ → ℕ) where
   -- the words of a, with f of b's up to n, and as they were from there on
@@ -140,17 +138,3 @@ pub not_lanes : (xs ys : List ℕ) → zip2 bit_and xs (map (bit_not w64) ys) �
 not_lanes [] ys = refl
 not_lanes (x ∷ xs) [] = refl
 not_lanes (x ∷ xs) (y ∷ ys) = ap (λ l. and_not x y ∷ l) (not_lanes xs ys)
-
--- counting
-pub ones_more : (i : ℕ) (ws : List ℕ) (total : ℕ) (w : ℕ) → i < length ws → w ≡ get_or ws i 0
-    → total + ones_in (drop i ws) ≡ ones_in ws → (total + count_ones w) + ones_in (drop (i + 1) ws) ≡ ones_in ws
-ones_more i ws total w room here so_far =
-    let more : suc i ≡ i + 1 = omega arith in
-    let split : ones_in (drop i ws) ≡ count_ones (get_or ws i 0) + ones_in (drop (i + 1) ws) =
-    ap ones_in (drop-cons ws i 0 room) ∙ ap (λ k. count_ones (get_or ws i 0) + ones_in (drop k ws)) more in
-    let w_is : count_ones w ≡ count_ones (get_or ws i 0) = ap count_ones here in
-    omega arith
-
-pub ones_bound : (i : ℕ) (ws : List ℕ) (total : ℕ) (w : ℕ) → i < length ws → w ≡ get_or ws i 0
-    → total + ones_in (drop i ws) ≡ ones_in ws → total + count_ones w ≤ ones_in ws
-ones_bound i ws total w room here so_far = omega (arith, ones_more i ws total w room here so_far)

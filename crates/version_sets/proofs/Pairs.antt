@@ -91,9 +91,6 @@ module _ (xs ys : Members) (a b : List ℕ) (p : AreWords xs a) (q : AreWords ys
   second_is : set_where (length xs) (has_bit b) ≡ ys
   second_is = ap (λ k. set_where k (has_bit b)) same ∙ q.same
 
-  pub pair_long : length a ≡ length b
-  pair_long = omega (arith, p.is.long, second.long)
-
   pub pair_within : all_zero (zip2 and_not a b) ≡ inside xs ys
   pair_within = within_is (length xs) a b p.is second ∙ ap₂ inside p.same second_is
 

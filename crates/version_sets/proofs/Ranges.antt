@@ -1,10 +1,11 @@
 -- The set of the numbers from one on and below another, by its tests.
 use Rattle.std.proofs.Common.{◌≡◌, ℕ, ◌+◌, ◌-◌, ◌<◌, ◌≤◌, Bool, true, false, not, ◌&&◌, eqb}
-use Rattle.std.proofs.Common.{◌++◌, map, replicate, refl, ap, ap₂, sym, ◌∙◌, arith, eq-eqb, inl, inr}
+use Rattle.std.proofs.Common.{◌++◌, map, replicate, ap, ap₂, sym, ◌∙◌, arith, eq-eqb, inl, inr}
 use Rattle.std.proofs.Math.Dec.{ltb}
 use Rattle.std.proofs.lemmas.Bool.{cases_eq, cases_lt, le-ltb, lt-ltb, ne_eqb}
 use Rattle.std.proofs.lemmas.List.{append-nil}
 use Rattle.std.proofs.lemmas.List.Elements.{filter-append}
+use Rattle.std.proofs.Math.Bool.{and-false}
 use Rattle.std.specs.List.{filter, range_with_len}
 use Rattle.version_sets.specs.Sets.{between, none, only}
 use Rattle.version_sets.specs.inner.Listed.{list_where, set_where}
@@ -17,11 +18,7 @@ abbrev pub in_range : ℕ → ℕ → ℕ → Bool
 in_range from to i = ltb i to && not (ltb i from)
 
 pub in_range_below : (from to i : ℕ) → i < from → in_range from to i ≡ false
-in_range_below from to i low = ap (λ b. ltb i to && not b) (lt-ltb i from low) ∙ and_false (ltb i to)
-  where
-    and_false : (b : Bool) → (b && false) ≡ false
-    and_false true = refl
-    and_false false = refl
+in_range_below from to i low = ap (λ b. ltb i to && not b) (lt-ltb i from low) ∙ and-false (ltb i to)
 
 pub in_range_inside : (from to i : ℕ) → from ≤ i → i < to → in_range from to i ≡ true
 in_range_inside from to i low high = ap₂ (λ b c. b && not c) (lt-ltb i to high) (le-ltb i from low)

@@ -5,6 +5,7 @@ use Rattle.std.proofs.Common.{arith, inl, inr}
 use Rattle.std.proofs.lemmas.Bool.{cases_eq, cases_lt}
 use Rattle.std.proofs.lemmas.List.{get_or_append_left, length-append}
 use Rattle.std.proofs.lemmas.Nat.Bits.{bit_at-pow_same, bit_at-pow_other}
+use Rattle.std.proofs.Math.Bool.{or-false}
 use Rattle.version_sets.specs.Sets.{Members, has}
 use Rattle.version_sets.specs.inner.Listed.{set_where}
 use Rattle.version_sets.specs.inner.Words.{AreWordsOf, IsWords, has_bit}
@@ -30,16 +31,12 @@ word_more tests from place made new now is = by (has tests (from + place)) refl
             | inl s ↦ bit j ∙ ap₂ (λ x y. x || y) (now.others j (omega (arith, s))) (ap (λ k. bit_is (2 ^ place) k) s
                 ∙ ap (λ k. eqb k 1) (bit_at-pow_same place)) ∙ sym (ap (λ k. has tests (from + k)) s ∙ e)
             | inr o ↦ bit j ∙ ap₂ (λ x y. x || y) (now.done j (omega (arith, lt, o)))
-                (ap (λ k. eqb k 1) (bit_at-pow_other place j o)) ∙ or_false (has tests (from + j))
+                (ap (λ k. eqb k 1) (bit_at-pow_other place j o)) ∙ or-false (has tests (from + j))
           ];
           others = λ j le. (let o : j ≢ place = (λ (s : j ≡ place). omega (arith, le, s)) in
               bit j ∙ ap₂ (λ x y. x || y) (now.others j (omega (arith, le)))
               (ap (λ k. eqb k 1) (bit_at-pow_other place j o)));
         }
-      where
-        or_false : (b : Bool) → (b || false) ≡ b
-        or_false true = refl
-        or_false false = refl
     by false e =
         let n : new ≡ made = is ∙ ap (λ b. cond b (bit_or made (2 ^ place)) made) e in
         record {

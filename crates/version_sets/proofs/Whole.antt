@@ -1,7 +1,7 @@
 -- A set by all words that its window stands for.
 use Rattle.std.proofs.Common.{◌≡◌, ℕ, ◌+◌, ◌*◌, ◌/◌, ◌%◌, ◌^◌, ◌<◌, ◌≤◌, Bool, true, false, ◌&&◌, List, length}
-use Rattle.std.proofs.Common.{map, get_or, bit_and, refl, ap, ap₂, sym, ◌∙◌, subst, arith, inl, inr}
-use Rattle.std.proofs.Math.Bool.{and-true}
+use Rattle.std.proofs.Common.{map, get_or, bit_and, ap, ap₂, sym, ◌∙◌, subst, arith, inl, inr}
+use Rattle.std.proofs.Math.Bool.{and-false, and-true}
 use Rattle.std.proofs.Math.Dec.{ltb}
 use Rattle.std.proofs.lemmas.Bool.{cases_lt, le-ltb, lt-ltb}
 use Rattle.std.proofs.lemmas.List.{get_or_past, length-map}
@@ -29,10 +29,6 @@ module _ (n : ℕ) (ws : List ℕ) (w : Window) (h : HasWords n ws w) where
   pub window_set : set_where w.universe (has_bit (all_words w)) ≡ set_where n (has_bit ws)
   window_set = ap₂ (λ m l. set_where m (has_bit l)) h.universe h.words
 
-and_false : (b : Bool) → (b && false) ≡ false
-and_false true = refl
-and_false false = refl
-
 -- the bits of a flank
 pub flank_has : (n : ℕ) (b : Bool) (i : ℕ) → has_bit (flank n b) i ≡ (b && ltb i n)
 flank_has n b i =
@@ -46,7 +42,7 @@ flank_words n b small = record {
   small = small;
   long = length-flank n b;
   fits = λ k. subst (λ w. w < 2 ^ 64) (sym (flank_at n b k)) (flank_fits n b k);
-  clear = λ i past. flank_has n b i ∙ ap (λ t. b && t) (le-ltb i n past) ∙ and_false b;
+  clear = λ i past. flank_has n b i ∙ ap (λ t. b && t) (le-ltb i n past) ∙ and-false b;
 }
 
 pub empty_set : (n : ℕ) → set_where n (has_bit (flank n false)) ≡ none n
@@ -87,7 +83,7 @@ module _ (s : Members) (ws : List ℕ) (p : AreWords s ws) (n : ℕ) (n_is : n �
           (omega (arith, length-zip2 bit_and (map (bit_not w64) ws) (flank n true) long, long)))) (omega arith)
     ];
     clear = λ i past. turned_has i ∙ ap (λ b. has_bit (map (bit_not w64) ws) i && b) (le-ltb i n past)
-        ∙ and_false (has_bit (map (bit_not w64) ws) i);
+        ∙ and-false (has_bit (map (bit_not w64) ws) i);
   }
 
   pub turned_members : set_where n (has_bit turned) ≡ rest s

@@ -21,6 +21,13 @@ inside_nothing [] h = refl
 inside_nothing (true ∷ s) h = absurd (false≢true h)
 inside_nothing (false ∷ s) h = inside_nothing s h
 
+-- a set that has a number isn't empty
+pub has_some : (s : Members) (i : ℕ) → has s i ≡ true → 0 < size s
+has_some [] i h = absurd (false≢true h)
+has_some (true ∷ s) i h = omega arith
+has_some (false ∷ s) zero h = absurd (false≢true h)
+has_some (false ∷ s) (suc i) h = has_some s i h
+
 -- sets that share a number meet
 pub meets_at : (s x : Members) (i : ℕ) → has s i ≡ true → has x i ≡ true → meets s x ≡ true
 meets_at [] x i h k = absurd (false≢true h)

@@ -1,9 +1,9 @@
 -- What requirements match and which versions lack a feature, kept by what it was looked up with.
-use Rattle.std.specs.Prelude.{◌≡◌, ◌&&◌, not, nat_eq, ℕ, Bool, List, ◌∷◌, Some, Vec, map, filter}
+use Rattle.std.specs.Prelude.{◌≡◌, ◌&&◌, not, nat_eq, ℕ, Bool, List, ◌∷◌, Vec, map, filter}
 use Rattle.std.specs.BTreeSet.{BTreeSet}
 use Rattle.std.specs.Borrow.{Bor}
 use Rattle.std.specs.Cmp.Lexicographic.{pointwise}
-use Rattle.std.specs.HashMap.{HashMap, get}
+use Rattle.std.specs.HashMap.{HashMap}
 use Rattle.std.specs.List.{list_any, list_all}
 use Rattle.std.specs.declared.alloc.Global.{Global}
 use Rattle.semver.specs.EvalViews.{matches_views}
@@ -16,6 +16,7 @@ use Rattle.classes.specs.declared.class.Class as code
 use Rattle.features.specs.inner.Texts.{HasThose}
 use Rattle.features.specs.Views.{requirement_view}
 use Rattle.lookups.specs.inner.Matching.{is_release}
+use Rattle.lookups.specs.inner.Numbers.{AreRight}
 use Rattle.model.specs.Content.{Problem, candidates_of}
 use Rattle.model.specs.Selection.{Class}
 use Rattle.model.specs.Summary.{has_feature}
@@ -34,10 +35,6 @@ same_ask x y = pointwise nat_eq x.0.now y.0.now && (requirements.eq-value).it x.
 
 abbrev pub same_class_ask : ClassAsk → ClassAsk → Bool
 same_class_ask x y = same_ask x.0 y.0 && (class_eq.eq-value).it x.1 y.1
-
--- each value that is kept is right for its key
-abbrev pub AreRight : {K V S : Type 0} → (K → K → Bool) → (K → V → Type 0) → HashMap K V S → Type 0
-AreRight {K} {V} same Is m = (k : K) (v : V) → get same m k ≡ Some v → Is k v
 
 -- ---- of a name, a requirement on it and a class
 
