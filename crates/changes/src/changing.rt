@@ -6,7 +6,8 @@ ghost use Rattle.catalogue.specs.Loads.{packages_of_old};
 ghost use Rattle.changes.specs.inner.Changed.{is_one, lacking, sharing, those};
 ghost use Rattle.changes.specs.inner.Views.{lent_views};
 
-use crate::relisting::{Relisting, has_no_source, relistings, roots};
+use crate::printing::{Line, moved};
+use crate::relisting::{Relisting, has_no_source, relistings};
 use catalogue::is_locked;
 use lockfile::{LockContent, Package};
 use std::alloc::{AllocError, Global};
@@ -22,10 +23,8 @@ pub struct Changes<'a> {
     pub stayed: Vec<&'a Package>,
     /// The same as the old lock has them.
     pub stood: Vec<&'a Package>,
-    /// The package of the manifest in the old lock and in the new one.
-    pub roots: Option<(&'a Package, &'a Package)>,
-    /// The others of the old lock that have no source, of which the new one has none.
-    pub sourceless: Vec<&'a Package>,
+    /// What became of packages from paths.
+    pub of_paths: Vec<Line<'a>>,
     /// What came onto lists and went from them, of packages that both locks have.
     pub relistings: Vec<Relisting<'a>>,
 }
@@ -44,12 +43,10 @@ pub fn changes_between<'a>(
 {
     let stayed = those(alloc, new.packages(), old, true)?;
     let stood = those(alloc, packages_if(old), Some(new), true)?;
-    let roots = roots(old, new);
     Ok(Changes {
         gone: those(alloc, packages_if(old), Some(new), false)?,
         came: those(alloc, new.packages(), old, false)?,
-        roots,
-        sourceless: sourceless(alloc, packages_if(old), roots)?,
+        of_paths: of_paths(alloc, old, new)?,
         relistings: relistings(alloc, old, new, &stood, &stayed)?,
         stayed,
         stood,
@@ -65,27 +62,33 @@ fn packages_if<'a>(content: Option<&'a LockContent>) -> &'a [Package]
     }
 }
 
-/// The packages without a source, but that of the manifest.
-fn sourceless<'a>(
+/// What became of packages from paths, which have no source, by name: a new lock has that of the manifest alone. Of an
+/// old one that has none, as one that was read in part, nothing is told.
+fn of_paths<'a>(
     alloc: Global,
-    packages: &'a [Package],
-    roots: Option<(&Package, &Package)>,
-) -> Result<Vec<&'a Package>, AllocError> {
-    let mut found = Vec::new(alloc);
-    for package in packages.iter() {
-        if has_no_source(package) && !is_before(roots, package) {
-            found.push(package)?;
+    old: Option<&'a LockContent>,
+    new: &'a LockContent,
+) -> Result<Vec<Line<'a>>, AllocError> {
+    let mut lines = Vec::new(alloc);
+    let root = new.packages().iter().find(|one| has_no_source(one));
+    let Some(root) = root else {
+        return Ok(lines);
+    };
+    let mut is_new = true;
+    for before in packages_if(old).iter().filter(|one| has_no_source(one)) {
+        if before.name != root.name {
+            lines.push(Line::Removing(before))?;
+            continue;
+        }
+        is_new = false;
+        if before.version != root.version {
+            lines.push(moved(before, root))?;
         }
     }
-    Ok(found)
-}
-
-/// Whether the package of the manifest was this one.
-fn is_before(roots: Option<(&Package, &Package)>, package: &Package) -> bool {
-    match roots {
-        Some((before, _)) => before.name == package.name && before.version == package.version,
-        None => false,
+    if is_new && !lines.is_empty() {
+        lines.push(Line::Adding(root))?;
     }
+    Ok(lines)
 }
 
 /// The packages of an index that another lock has, or those that it lacks.

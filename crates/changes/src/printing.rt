@@ -34,7 +34,16 @@ pub struct ToldLine<'a> {
     pub rust: Option<NeededRust>,
 }
 
-impl ToldLine<'_> {
+impl<'a> ToldLine<'a> {
+    /// A line beside which nothing is told.
+    fn of(line: Line<'a>) -> ToldLine<'a> {
+        ToldLine {
+            line,
+            newer: None,
+            rust: None,
+        }
+    }
+
     fn is_of_one_that_stays(&self) -> bool {
         matches!(self.line, Line::Unchanged(_))
     }
@@ -58,10 +67,8 @@ pub fn tell_changes<'a>(
 ) -> Result<String, AllocError> {
     let mut text = String::new(alloc);
     let lines = told_lines(alloc, catalogue, new, changes, rust)?;
-    let locked = Packages(changes.came.len());
-    if !is_of_root_alone(changes) {
-        writeln!(text, "     Locking {locked}")?;
-    }
+    let locked = Packages(changes.came.len().saturating_add(came_of_paths(changes)));
+    writeln!(text, "     Locking {locked}")?;
     for told in lines.iter() {
         if all || !told.is_of_one_that_stays() {
             push_line(&mut text, *told)?;
@@ -115,14 +122,13 @@ fn told_line<'a>(
     }
 }
 
-/// Whether no package comes or goes, but that of the manifest changes.
-fn is_of_root_alone(changes: &Changes<'_>) -> bool {
-    let is_moved = match changes.roots {
-        Some((before, after)) => before.name != after.name || before.version != after.version,
-        None => false,
-    };
-    let is_none_gone = changes.gone.is_empty() && changes.sourceless.is_empty();
-    is_moved && changes.came.is_empty() && is_none_gone
+/// How many packages from paths are locked anew.
+fn came_of_paths(changes: &Changes<'_>) -> usize {
+    changes
+        .of_paths
+        .iter()
+        .filter(|line| !matches!(line, Line::Removing(_)))
+        .count()
 }
 
 /// So many packages.
@@ -171,12 +177,10 @@ fn listed_by_root<'a>(
     Ok(listed)
 }
 
-/// What changes in a lock beside its packages of an index: packages without a source, the version of the manifest's
-/// package, lists, checksums.
+/// What changes in a lock beside its packages of an index: packages from paths, lists, checksums.
 fn push_beside(text: &mut String, changes: &Changes<'_>) -> Result<(), AllocError> {
-    push_sourceless(text, &changes.sourceless)?;
-    if let Some((before, after)) = changes.roots {
-        push_root(text, before, after)?;
+    for line in changes.of_paths.iter() {
+        push_line(text, ToldLine::of(*line))?;
     }
     for relisting in changes.relistings.iter() {
         push_relisting(text, *relisting)?;
@@ -192,32 +196,6 @@ fn push_beside(text: &mut String, changes: &Changes<'_>) -> Result<(), AllocErro
             text,
             "note: the checksums of {summed} unchanged packages change"
         ),
-    }
-}
-
-/// The lines of packages without a source that went, as one from a path that is no longer there.
-fn push_sourceless(text: &mut String, packages: &[&Package]) -> Result<(), AllocError> {
-    for package in packages.iter() {
-        let Package { name, version, .. } = package;
-        writeln!(text, "    Removing {name} v{version}")?;
-    }
-    Ok(())
-}
-
-/// The line of the manifest's package, where it changed its name or its version.
-fn push_root(text: &mut String, before: &Package, after: &Package) -> Result<(), AllocError> {
-    let Package { name, version, .. } = before;
-    let (new_name, new_version) = (&after.name, &after.version);
-    if name != new_name {
-        return writeln!(
-            text,
-            "    Renaming {name} v{version} -> {new_name} v{new_version}"
-        );
-    }
-    if version_order(version, new_version) == Ordering::Equal {
-        Ok(())
-    } else {
-        writeln!(text, "    Updating {name} v{version} -> v{new_version}")
     }
 }
 
@@ -290,14 +268,17 @@ fn lines<'a>(alloc: Global, changes: &Changes<'a>) -> Result<Vec<Line<'a>>, Allo
 /// The line of a package that went: if it is the only one of its name and source, and one alone came, then it changed.
 fn gone<'a>(changes: &Changes<'a>, before: &'a Package) -> Line<'a> {
     match partner(&changes.gone, &changes.came, before) {
-        Some(after) => {
-            if version_order(&before.version, &after.version) == Ordering::Less {
-                Line::Updating(before, after)
-            } else {
-                Line::Downgrading(before, after)
-            }
-        }
+        Some(after) => moved(before, after),
         None => Line::Removing(before),
+    }
+}
+
+/// The line of a package that changed its version.
+pub(crate) fn moved<'a>(before: &'a Package, after: &'a Package) -> Line<'a> {
+    if version_order(&before.version, &after.version) == Ordering::Less {
+        Line::Updating(before, after)
+    } else {
+        Line::Downgrading(before, after)
     }
 }
 

@@ -43,7 +43,7 @@ pub(crate) fn relistings<'a>(
 
 /// The package of the manifest in each lock. In the new one it alone has no source; in the old one, where others from
 /// paths may have none, it has its name, or another one if it alone has none.
-pub(crate) fn roots<'a>(
+fn roots<'a>(
     old: Option<&'a LockContent>,
     new: &'a LockContent,
 ) -> Option<(&'a Package, &'a Package)> {
