@@ -20,7 +20,7 @@ mod why;
 
 pub use asking::CRATES_IO;
 pub(crate) use asking::{inputs_in, lock_in, new_lock, verdict_on};
-pub(crate) use changing::{NewLock, changes_in, lost_in, refusal_in};
+pub(crate) use changing::{NewLock, changes_in, lost_in, other_source_in, refusal_in};
 pub use form::Form;
 pub(crate) use judging::{flaws_in, verdict_in};
 pub(crate) use misread::{manifest_misreading_in, misreading_in};

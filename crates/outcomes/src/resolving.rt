@@ -5,7 +5,7 @@ ghost use Rattle.outcomes.specs.inner.Outcomes.{ending_of, ending_view};
 
 use crate::answers::{
     Form, NewLock, Repaired, Unlocked, changes_in, is_of_old_format, lock_in, lost_in, new_lock,
-    preferred_by_cargo, readable_rest, refusal_in, unlock,
+    other_source_in, preferred_by_cargo, readable_rest, refusal_in, unlock,
 };
 use crate::faults::{tell_checksums, tell_misreading};
 use crate::outcome::Outcome;
@@ -217,6 +217,9 @@ fn lock_told<F: Folder>(
     let text = changes_in(alloc, folder, bytes, path, lock, said.form(), wish.all)?;
     said.answer(text.as_str())?;
     tell_skipped(alloc, lock.skipped, said)?;
+    if !lock.kept {
+        tell_source(alloc, path, bytes, said)?;
+    }
     if !lock.kept && is_of_old_format(alloc, bytes)? {
         said.advice("the lock becomes one of format 4, which Cargo reads from 1.78 on")?;
     }
@@ -231,6 +234,17 @@ fn lock_told<F: Folder>(
         }
     }
     Ok(outcome)
+}
+
+/// That the packages of the old lock may be the index's all the same, where all have another source.
+fn tell_source(alloc: Global, path: &str, bytes: &Bytes, said: &mut Said) -> Result<(), Fault> {
+    let Some(source) = other_source_in(alloc, bytes)? else {
+        return Ok(());
+    };
+    let text = format!(in alloc;
+        "the packages of {path} have another source; `--source {source}` gives it to the index"
+    )?;
+    Ok(said.advice(text.as_str())?)
 }
 
 /// How many lines of the index weren't used.

@@ -137,3 +137,19 @@ pub(crate) fn lost_in<F: Folder>(
         None => Ok(Vec::new(alloc)),
     }
 }
+
+/// The source of the packages of the old lock, where all have one and it isn't that of the index.
+pub(crate) fn other_source_in(alloc: Global, bytes: &Bytes) -> Result<Option<String>, Fault> {
+    let inputs = inputs_in(alloc, bytes)?;
+    let Some(old) = &inputs.lock else {
+        return Ok(None);
+    };
+    let mut sources = old.packages().iter().filter_map(|package| package.source());
+    let Some(source) = sources.next() else {
+        return Ok(None);
+    };
+    if source == inputs.source.as_str() || sources.any(|other| other != source) {
+        return Ok(None);
+    }
+    Ok(Some(String::from_str(alloc, source)?))
+}
