@@ -51,6 +51,7 @@ fn update<'a>(alloc: Global) -> Result<Command<'a>, AllocError> {
         "Tells how the lock would change were these packages, or all, locked anew",
     )?;
     let command = with_option(command, packages(alloc))?;
+    let command = with_option(command, more_packages(alloc))?;
     let command = with_option(command, precise(alloc))?;
     changing(alloc, command)
 }
@@ -146,6 +147,16 @@ fn packages<'a>(alloc: Global) -> Arg<'a> {
         .help("Packages of the lock [default: all]")
 }
 
+/// Packages of the lock as Cargo takes them too, though its help doesn't say so.
+fn more_packages<'a>(alloc: Global) -> Arg<'a> {
+    Arg::new(alloc, "more-packages")
+        .long("package")
+        .short('p')
+        .action(ArgAction::Append)
+        .value_name("NAME[@VERSION]")
+        .hide(true)
+}
+
 fn ignore_rust_version<'a>(alloc: Global) -> Arg<'a> {
     flag(alloc, "ignore-rust-version").help(
         "Prefers the newest versions where edition 2024 or resolver 3 prefers what fits `rust-version`",
@@ -163,7 +174,9 @@ fn precise<'a>(alloc: Global) -> Arg<'a> {
 }
 
 fn dry_run<'a>(alloc: Global) -> Arg<'a> {
-    flag(alloc, "dry-run").help("Writes nothing, as without --write; wins over it")
+    flag(alloc, "dry-run")
+        .short('n')
+        .help("Writes nothing, as without --write; wins over it")
 }
 
 fn write<'a>(alloc: Global) -> Arg<'a> {

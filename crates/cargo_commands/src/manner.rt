@@ -2,7 +2,7 @@
 
 use crate::command::{flag, option, with_option};
 use clap::builder::ValueParser;
-use clap::{Arg, ArgMatches, Command};
+use clap::{Arg, ArgAction, ArgMatches, Command};
 use std::alloc::{AllocError, Global};
 
 /// When colors are shown.
@@ -74,9 +74,11 @@ fn quiet<'a>(alloc: Global) -> Arg<'a> {
 }
 
 fn verbose<'a>(alloc: Global) -> Arg<'a> {
-    flag(alloc, "verbose").short('v').global(true).help(
-        "Tells too what stays behind its newest version, the time, and how much was read",
-    )
+    flag(alloc, "verbose")
+        .short('v')
+        .action(ArgAction::Count)
+        .global(true)
+        .help("Tells too what stays behind its newest version, the time, and how much was read")
 }
 
 /// How the words of a command ask it to tell what it finds.
@@ -84,7 +86,7 @@ pub(crate) fn manner_of(found: &ArgMatches<'_>) -> Manner {
     Manner {
         color: color_of(found),
         quiet: found.get_flag("quiet"),
-        verbose: found.get_flag("verbose"),
+        verbose: found.get_count("verbose") > 0,
         format: format_of(found),
     }
 }

@@ -137,8 +137,8 @@ fn asked_by<'a>(alloc: Global, matches: &ArgMatches<'a>) -> Result<Option<Asked<
 
 fn update_in<'a>(alloc: Global, found: &ArgMatches<'a>) -> Result<CargoWords<'a>, AllocError> {
     let mut packages = Vec::new(alloc);
-    if let Some(given) = found.get_strs("package") {
-        packages.extend_from_slice(given)?;
+    for id in ["package", "more-packages"] {
+        packages.extend_from_slice(found.get_strs(id).unwrap_or(&[]))?;
     }
     Ok(CargoWords::Update {
         places: places_of(found),
@@ -174,7 +174,7 @@ fn changing_in(found: &ArgMatches<'_>) -> Changing {
     Changing {
         locked: found.get_flag("locked"),
         write: found.get_flag("write") && !found.get_flag("dry-run"),
-        all: found.get_flag("all") || found.get_flag("verbose"),
+        all: found.get_flag("all") || manner_of(found).verbose,
         ignore_rust_version: found.get_flag("ignore-rust-version"),
     }
 }
