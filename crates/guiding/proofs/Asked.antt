@@ -1,5 +1,5 @@
 -- A guide as its fields are, before and after it asks for a pair.
-use Rattle.std.proofs.Common.{◌≡◌, ◌⊎◌, inl, inr, ℕ, suc, ◌<◌, ◌≤◌, true, List, Contains, length, map, take, Result, Ok}
+use Rattle.std.proofs.Common.{◌≡◌, ◌⊎◌, inl, inr, ℕ, suc, ◌<◌, ◌≤◌, true, List, length, map, take, Result, Ok}
 use Rattle.std.proofs.Common.{Err, Option, Some, slice_get, refl, sym, ap, ◌∙◌, subst, arith}
 use Rattle.std.specs.Prelude.{OnErr, OnOk}
 use Rattle.std.proofs.lemmas.List.{length-map}
@@ -15,14 +15,8 @@ use Rattle.model.specs.Order.{IsCatalogue}
 use Rattle.numbering.specs.inner.Assignments.{state_at}
 use Rattle.numbering.specs.inner.KnownProblem.{KnowsDefault, problem}
 use Rattle.numbering.specs.Numberings.{IsGrown, IsNumbering, Numbering}
-use Rattle.numbering.specs.inner.CausesAt.{first_causes}
 use Rattle.numbering.specs.inner.AskedFor.{IsGivenNext}
-use Rattle.numbering.specs.Pairs.{AreOfPair, Given, IsFirstGiven, pairs_of}
-use Rattle.numbering.proofs.AddLaws.{state_in}
-use Rattle.numbering.proofs.CausesLaws.{first_there}
-use Rattle.numbering.proofs.Overtaken.{first_named}
-use Rattle.model.specs.Axioms.{IsVertex}
-use Rattle.model.proofs.Members.{element}
+use Rattle.numbering.specs.Pairs.{AreOfPair, Given}
 use Rattle.numbering.specs.declared.known_problem.KnownProblem.{KnownProblem}
 use Rattle.guiding.specs.inner.Searching.{HasSpaces, IsOnly, IsSeen, Pairs}
 use Rattle.guiding.specs.inner.Searching as searching
@@ -75,20 +69,6 @@ state_below i vs asked old seen follows n v s is view low lt w at =
     let lt : s < length (set_of asked v) = subst (λ (o : EncodedView). s < length (set_of o.asked v)) (sym view) lt in
     let r = on_trail_at (problem i) vs asked v is.spaces low in
     subst (λ n. s < n) (r.2 ∙ ap (λ x. length (space (problem i) x)) (same_Some r.0 w (sym r.1 ∙ at))) lt
-
--- the first instances of a pair are of it
-pub first_of : (i : KnownProblem) (vs new : Numbering) (v s : ℕ) (asked : List Members) (given : List Given)
-    → IsEncoding i vs asked → ((w : Vertex) → slice_get vs v ≡ Some w → s < length (space (problem i) w))
-    → ((w : Vertex) → slice_get vs v ≡ Some w → IsFirstGiven (problem i) new (w, state_at (problem i) w s) given)
-    → (w : Vertex) → slice_get vs v ≡ Some w → AreOfPair (problem i) new (w, state_at (problem i) w s) given
-first_of i vs new v s asked given is below first w at = record {
-  causes = first_causes (problem i) w (state_at (problem i) w s);
-  are = λ c h. let r = first_there (problem i) w (state_at (problem i) w s)
-      (element (λ v. IsVertex (problem i) v) vs v w is.numbering.there at)
-      (state_in (problem i) w s (state_at (problem i) w s) (below w at) refl) c h in
-      (r.0, subst (Contains (pairs_of c)) r.1 (first_named c));
-  given = first w at;
-}
 
 -- what all of the instances, or some, are given in
 module _ (i : KnownProblem) (vs new : Numbering) (asked mid last : List Members) (seen : ℕ) (follows : Option Content)

@@ -27,7 +27,7 @@ use Rattle.model.proofs.Named.{to_class, to_lists, to_feature, to_some_entry}
 use Rattle.numbering.specs.Pairs.{Pair, owner_pair, first_pair, AreCausesAt, IsCauseAt}
 use Rattle.numbering.specs.inner.CausesAt.{each_from, need_if, turned_if, weak_if, needs_of, entry_if, entry_causes}
 use Rattle.numbering.specs.inner.CausesAt.{feature_causes, version_causes, root_asked, newest_if, overtaken_if}
-use Rattle.numbering.specs.inner.CausesAt.{alone_causes, lead_causes, causes_at, first_causes, with_causes}
+use Rattle.numbering.specs.inner.CausesAt.{alone_causes, lead_causes, causes_at, with_causes}
 use Rattle.numbering.specs.inner.OnPackage.{is_other}
 use Rattle.numbering.proofs.Each.{from_if, in_all, only_one, to_all, to_if}
 use Rattle.numbering.proofs.SameCauses.{all_once, same_ones}
@@ -438,25 +438,13 @@ module _ (q : Problem) where
   is_there (ask name v i g) (version w) is within c h = absurd (in_none c h)
   is_there (ask name v i g) (in_class m) is within c h = absurd (in_none c h)
 
-  -- those that come first are among them
-  first_listed : (v : Vertex) (s : State) (c : Cause) → Contains (first_causes q v s) c → Contains (causes_at q v s) c
-  first_listed root s c h = absurd (in_none c h)
-  first_listed (pkg name k) s c h = absurd (in_none c h)
-  first_listed (dep o i) absent c h = absurd (in_none c h)
-  first_listed (dep o i) present c h = absurd (in_none c h)
-  first_listed (dep o i) (version w) c h = absurd (in_none c h)
-  first_listed (dep o i) (in_class k) c h = by (dependency_at q o i) h
-    where
-      by : (x : Option Dependency) → Contains (alone_causes q o i k x) c → Contains (lead_causes q o i k x) c
-      by None h = absurd (in_none c h)
-      by (Some d) h = Contains-append_left (alone_causes q o i k (Some d))
-          (each_from (newest_if q o i k d) 0 (owner_brings q o).dependencies) c h
-  first_listed (feat name k f) s c h = absurd (in_none c h)
-  first_listed (ask name v i g) s c h = absurd (in_none c h)
-
-  pub first_there : (v : Vertex) (s : State) → IsVertex q v → Contains (space q v) s → (c : Cause)
-      → Contains (first_causes q v s) c → IsCauseAt q (v, s) c
-  first_there v s is within c h = is_there v s is within c (first_listed v s c h)
+  -- those of a dependency in a class that name no other dependency are among them
+  pub alone_there : (o : Owner) (i : ℕ) (k : Class) → IsVertex q (dep o i) → Contains (space q (dep o i)) (in_class k)
+      → (d : Dependency) → dependency_at q o i ≡ Some d
+      → (c : Cause) → Contains (alone_causes q o i k (Some d)) c → IsCauseAt q (dep o i, in_class k) c
+  alone_there o i k is within d e c h = is_there (dep o i) (in_class k) is within c
+      (subst (λ y. Contains (lead_causes q o i k y) c) (sym e) (Contains-append_left (alone_causes q o i k (Some d))
+      (each_from (newest_if q o i k d) 0 (owner_brings q o).dependencies) c h))
 
   -- A cause is listed for its pair exactly where it is there.
   pub listed_at : (v : Vertex) (s : State) → IsVertex q v → Contains (space q v) s → (c : Cause)

@@ -1,5 +1,5 @@
 -- The causes that are listed for a pair that is asked for after others.
-use Rattle.std.proofs.Common.{◌≡◌, ◌⊎◌, ℕ, suc, zero, List, [], ◌∷◌, ◌++◌, map, Bool, true, false, not, ◌&&◌, Contains}
+use Rattle.std.proofs.Common.{◌≡◌, ◌⊎◌, ℕ, suc, zero, List, [], ◌∷◌, ◌++◌, map, true, not, ◌&&◌, Contains}
 use Rattle.std.proofs.Common.{Option, Some, None, nat_eq, refl, sym, ap, ◌∙◌, subst, inl, inr, true≢false, arith}
 use Rattle.std.specs.List.{flat_map}
 use Rattle.std.proofs.lemmas.Bool.{and_from, eq-eqb, ne_eqb, not-true}
@@ -22,7 +22,7 @@ use Rattle.numbering.specs.inner.AskedFor.{newest_of}
 use Rattle.numbering.specs.inner.CausesAt.{alone_causes, root_asked}
 use Rattle.numbering.specs.Pairs.{Pair, first_pair, pairs_of}
 use Rattle.numbering.specs.declared.noted.Noted.{Noted}
-use Rattle.numbering.proofs.CausesLaws.{asked_there, first_there, is_listed, is_there, newest_is}
+use Rattle.numbering.proofs.CausesLaws.{alone_there, asked_there, is_listed, is_there, newest_is}
 use Rattle.numbering.proofs.Each.{from_if, only_one, to_if}
 
 -- ---- a pair is among those of a cause
@@ -78,8 +78,7 @@ module _ (q : Problem) (ps : List (ℕ × Class)) where
       by None e h = absurd (in_none c h)
       by (Some d) e h =
           elim (Contains-append_cases (alone_causes q o i k (Some d)) (flat_map (both_of q o i k) ps) c h) [
-            | inl a ↦ named (dep o i) (in_class k) c (first_there q (dep o i) (in_class k) is within c
-                (subst (λ y. Contains (alone_causes q o i k y) c) (sym e) a))
+            | inl a ↦ named (dep o i) (in_class k) c (alone_there q o i k is within d e c a)
             | inr b ↦ both_there o i k c b
           ]
 

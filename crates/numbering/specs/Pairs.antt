@@ -10,7 +10,6 @@ use Rattle.model.specs.Vertices.{version, in_class}
 use Rattle.model.specs.Axioms.{Kind}
 use Rattle.model.specs.Causes.{Cause, of_root, of_need, of_target, of_feature, of_list, of_ask, of_entry}
 use Rattle.model.specs.Causes.{of_enabling, of_asking, of_newest, of_weak, kind_of, is_cause, terms_of_cause}
-use Rattle.numbering.specs.inner.CausesAt.{first_causes}
 use Rattle.numbering.specs.Numberings.{Numbering, Says}
 
 abbrev pub Pair : Type 0
@@ -70,10 +69,6 @@ pub record IsGivenAt (q : Problem) (vs : Numbering) (p : Pair) (xs : List Given)
   pub causes : List Cause
   pub are : AreCausesAt q p causes
   pub given : AreGiven q vs causes xs
-
--- what is given first of a pair: the instances of those that name no other dependency
-abbrev pub IsFirstGiven : Problem → Numbering → Pair → List Given → Type 0
-IsFirstGiven q vs p xs = AreGiven q vs (first_causes q p.0 p.1) xs
 
 -- instances of causes that name the pair, whichever
 pub record AreOfPair (q : Problem) (vs : Numbering) (p : Pair) (xs : List Given) : Type 0 where

@@ -104,24 +104,6 @@ fn put_asked_leading<'a>(
     put_both(known, those, causes, lead)
 }
 
-/// What a dependency gives that leads to a class without another dependency: nothing where it isn't there.
-pub(crate) fn put_lead_alone<'a>(
-    alloc: Global,
-    known: &KnownProblem<'a>,
-    causes: &mut Vec<Cause<'a>>,
-    lead: Lead<'a>,
-) -> Result<(), AllocError>
-    requires default { KnowsDefault known.now }
-    ensures { OnOk result (cause_views causes.new.items ≡ cause_views causes.old.items ++ alone_causes
-        (problem known.now) (owner_ref_view lead.entry.owner) lead.entry.number (class_view lead.entry.class)
-        (dependency_at (problem known.now) (owner_ref_view lead.entry.owner) lead.entry.number)) }
-{
-    match dependency_at(known, &lead.owner, lead.number) {
-        Some(dependency) => put_alone(alloc, known, causes, lead, dependency),
-        None => Ok(()),
-    }
-}
-
 /// Its target, and the features that it asks for by its list.
 fn put_alone<'a>(
     alloc: Global,

@@ -13,13 +13,13 @@ ghost use Rattle.numbering.specs.GivenViews.{cause_views, given_views};
 ghost use Rattle.lookups.specs.inner.CauseViews.{cause_view};
 ghost use Rattle.numbering.specs.inner.KnownProblem.{KnowsDefault, problem};
 ghost use Rattle.numbering.specs.Numberings.{AddsOnly, IsGrown, IsNumbering};
-ghost use Rattle.numbering.specs.Pairs.{AreGiven, IsCauseAt, IsFirstGiven, IsGivenAt, IsSpokenOf, spoken_by};
+ghost use Rattle.numbering.specs.Pairs.{AreGiven, AreOfPair, IsCauseAt, IsGivenAt, IsSpokenOf, spoken_by};
 ghost use Rattle.vertices.specs.inner.RefViews.{state_ref_view, vertex_ref_view};
 
 use crate::instances::instance;
 use crate::known_problem::KnownProblem;
 use crate::noted::Noted;
-use crate::pair_causes::{causes_asked, causes_at, first_causes_at};
+use crate::pair_causes::{causes_asked, causes_at};
 use crate::states::state_at;
 use crate::table::Table;
 use incompatibilities::Incompatibility;
@@ -54,8 +54,8 @@ pub fn axioms_at<'a, S: States + Drop>(
     }
 }
 
-/// Of the same those of a dependency in a class that speak of no other dependency; none of another vertex. So what the
-/// class itself rules out is found before the other dependencies on the package are looked at.
+/// Of the same those that come where no other pair was asked for: of a dependency in a class those that speak of no
+/// other one. So what the class itself rules out is found before the other dependencies on the package are looked at.
 pub fn first_axioms_at<'a, S: States + Drop>(
     alloc: Global,
     known: &KnownProblem<'a>,
@@ -69,7 +69,7 @@ pub fn first_axioms_at<'a, S: States + Drop>(
         → state < length (space (problem known.now) v) }
     ensures grown { IsGrown table.old table.new }
     ensures numbering { IsNumbering (problem known.now) table.new }
-    ensures given { IfOk result (λ xs. (v : Vertex) → slice_get table.old number ≡ Some v → IsFirstGiven
+    ensures given { IfOk result (λ xs. (v : Vertex) → slice_get table.old number ≡ Some v → AreOfPair
         (problem known.now) table.new (v, state_at (problem known.now) v state) (given_views S.tests xs.items)) }
 {
     match table.vertex(number) {
@@ -154,13 +154,13 @@ fn first_axioms<'a, S: States + Drop>(
     requires state { number < length (space (problem known.now) (vertex_ref_view vertex)) }
     ensures grown { IsGrown table.old table.new }
     ensures numbering { IsNumbering (problem known.now) table.new }
-    ensures given { IfOk result (λ xs. IsFirstGiven (problem known.now) table.new (
+    ensures given { IfOk result (λ xs. AreOfPair (problem known.now) table.new (
       vertex_ref_view vertex.entry,
       state_at (problem known.now) (vertex_ref_view vertex.entry) number,
     ) (given_views S.tests xs.items)) }
 {
     let state = state_at(alloc, known, &vertex, number)?;
-    let causes = first_causes_at(alloc, known, vertex, state)?;
+    let causes = causes_asked(alloc, known, &[], vertex, state)?;
     instances(alloc, known, table, causes.as_slice())
 }
 

@@ -10,14 +10,14 @@ ghost use Rattle.model.specs.inner.Listed.{classes_at};
 ghost use Rattle.numbering.specs.GivenViews.{cause_views};
 ghost use Rattle.lookups.specs.inner.CauseViews.{cause_view};
 ghost use Rattle.numbering.specs.inner.AskedFor.{asked_causes, noted_views};
-ghost use Rattle.numbering.specs.inner.CausesAt.{causes_at, first_causes, with_causes};
+ghost use Rattle.numbering.specs.inner.CausesAt.{causes_at, with_causes};
 ghost use Rattle.numbering.specs.inner.KnownProblem.{KnowsDefault, problem};
 ghost use Rattle.numbering.specs.Pairs.{AreCausesAt};
 ghost use Rattle.vertices.specs.inner.RefViews.{owner_ref_view, state_ref_view, vertex_ref_view};
 
 use crate::causes::{each_once, put_needs, put_version};
 use crate::known_problem::KnownProblem;
-use crate::leading::{Lead, put_asked_lead, put_lead, put_lead_alone};
+use crate::leading::{Lead, put_asked_lead, put_lead};
 use crate::owners::dependencies_of;
 use crate::possible_classes::classes_at;
 use classes::Class;
@@ -44,54 +44,6 @@ pub fn causes_at<'a>(
     let mut causes = Vec::new(alloc);
     put_causes(alloc, known, &mut causes, vertex, state)?;
     each_once(alloc, causes.as_slice())
-}
-
-/// The causes of a dependency that leads to a class which name no other dependency; none of another vertex.
-pub(crate) fn first_causes_at<'a>(
-    alloc: Global,
-    known: &KnownProblem<'a>,
-    vertex: VertexRef<'a>,
-    state: StateRef<'a>,
-) -> Result<Vec<Cause<'a>>, AllocError>
-    requires default { KnowsDefault known.now }
-    ensures { IfOk result (λ v. cause_views v.items
-        ≡ first_causes (problem known.now) (vertex_ref_view vertex.entry) (state_ref_view state.entry)) }
-{
-    let mut causes = Vec::new(alloc);
-    match state {
-        StateRef::Absent => {}
-        StateRef::Present => {}
-        StateRef::Version(_) => {}
-        StateRef::Class(class) => put_first(alloc, known, &mut causes, vertex, class)?,
-    }
-    Ok(causes)
-}
-
-fn put_first<'a>(
-    alloc: Global,
-    known: &KnownProblem<'a>,
-    causes: &mut Vec<Cause<'a>>,
-    vertex: VertexRef<'a>,
-    class: Class,
-) -> Result<(), AllocError>
-    requires default { KnowsDefault known.now }
-    ensures { OnOk result (cause_views causes.new.items ≡ cause_views causes.old.items
-        ++ first_causes (problem known.now) (vertex_ref_view vertex.entry) (model.in_class (class_view class))) }
-{
-    match vertex {
-        VertexRef::Root => Ok(()),
-        VertexRef::Package(_, _) => Ok(()),
-        VertexRef::Dependency(owner, number) => {
-            let lead = Lead {
-                owner,
-                number,
-                class,
-            };
-            put_lead_alone(alloc, known, causes, lead)
-        }
-        VertexRef::Feature(_, _, _) => Ok(()),
-        VertexRef::Ask(_, _, _, _) => Ok(()),
-    }
 }
 
 fn put_causes<'a>(

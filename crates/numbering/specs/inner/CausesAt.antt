@@ -98,11 +98,6 @@ module _ (q : Problem) where
   causes_at (ask name v i g) present = map (of_ask name v i g) (classes_at q (version_of name v) i)
   causes_at _ _ = []
 
--- those of a dependency in a class that name no other dependency
-abbrev pub first_causes : Problem → Vertex → State → List Cause
-first_causes q (dep o i) (in_class k) = alone_causes q o i k (dependency_at q o i)
-first_causes q _ _ = []
-
 -- ---- each once
 
 -- the causes with one more at the end, unless it is there

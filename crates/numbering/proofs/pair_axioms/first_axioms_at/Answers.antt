@@ -8,7 +8,7 @@ use Rattle.model.proofs.Members.{element}
 use Rattle.numbering.specs.inner.Assignments.{state_at}
 use Rattle.numbering.specs.GivenViews.{given_views}
 use Rattle.numbering.specs.inner.KnownProblem.{problem}
-use Rattle.numbering.specs.Pairs.{IsFirstGiven}
+use Rattle.numbering.specs.Pairs.{AreOfPair}
 use Rattle.vertices.specs.inner.RefViews.{vertex_ref_view}
 use Rattle.numbering.proofs.pair_axioms.first_axioms_at.Goals as goal
 
@@ -32,10 +32,10 @@ returns-in-Some-clause-given g c =
     let seen : slice_get c.args.table.now c.args.number ≡ Some w =
     sym c.vertex.ensures ∙ ap (option_map vertex_ref_view) c.in-Some.is in
     IfOk-weaker c.first_axioms.result
-    (λ xs. IsFirstGiven q new (w, state_at q w n) (given_views g.S.States.tests xs.items))
+    (λ xs. AreOfPair q new (w, state_at q w n) (given_views g.S.States.tests xs.items))
     (λ xs. (v : Vertex) → slice_get c.args.table.now c.args.number ≡ Some v
-    → IsFirstGiven q new (v, state_at q v n) (given_views g.S.States.tests xs.items))
-    (λ xs given v e. subst (λ (u : Vertex). IsFirstGiven q new (u, state_at q u n)
+    → AreOfPair q new (v, state_at q v n) (given_views g.S.States.tests xs.items))
+    (λ xs given v e. subst (λ (u : Vertex). AreOfPair q new (u, state_at q u n)
     (given_views g.S.States.tests xs.items)) (same_Some w v (sym seen ∙ e)) given)
     c.first_axioms.ensures.given
 

@@ -5,7 +5,7 @@ use Rattle.numbering.specs.GivenViews.{given_views}
 use Rattle.numbering.specs.inner.KnownProblem.{problem}
 use Rattle.propagation.specs.Trails.{trail_view}
 use Rattle.guiding.specs.inner.Guides.{EncodedView}
-use Rattle.guiding.proofs.Asked.{beginning_by, first_of, state_below}
+use Rattle.guiding.proofs.Asked.{beginning_by, state_below}
 use Rattle.guiding.proofs.Noting.{encoding_grown, no_more, noted_more, noted_same}
 use Rattle.guiding.proofs.guide.Encoded.begin_with.Goals as goal
 
@@ -74,7 +74,5 @@ returns g c =
     c.self.invariant.0 c.first_axioms_at.ensures.grown c.come.ensures.encoding c.in_ok-come.ensures.came
     (subst (λ n. length table ≤ n) (sym (length-map c.come.new.asked.items tests)) c.in_ok-come.ensures.whole)
     c.come.ensures.trail c.in_ok-put_given.ensures refl
-    (first_of f.known f.table table c.args.vertex c.args.state asked given c.self.invariant.0
-    (state_below f.known f.table asked c.args.self.now f.seen f.follows f.to_begin c.args.vertex c.args.state
-    c.self.invariant.0 c.self.view_is c.requires.vertex c.requires.state) c.in_ok-given.ensures.given) refl
+    c.in_ok-given.ensures.given refl
     (let some = subst (λ (o : EncodedView). 0 < o.to_begin) (sym c.self.view_is) c.requires.some in omega (arith, some))
