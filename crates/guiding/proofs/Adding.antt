@@ -21,9 +21,10 @@ use Rattle.model.specs.Derivation.{states_at}
 use Rattle.model.specs.Vertices.{State, Vertex, space}
 use Rattle.model.specs.Causes.{Cause, is_cause, kind_of, of_root, terms_of_cause}
 use Rattle.model.proofs.CauseLaws.{cause_instance}
+use Rattle.numbering.specs.inner.AskedFor.{IsGivenFirst}
 use Rattle.numbering.specs.inner.Assignments.{state_at}
 use Rattle.numbering.specs.Numberings.{Numbering, Says, members_at}
-use Rattle.numbering.specs.Pairs.{AreGiven, AreOfPair, Given, IsGivenAt, Pair, pairs_of}
+use Rattle.numbering.specs.Pairs.{AreGiven, Given, IsGivenAt, Pair, first_pair, pairs_of}
 use Rattle.numbering.proofs.Needing.{still_at}
 use Rattle.numbering.proofs.Overtaken.{first_named}
 use Rattle.model.proofs.Lists.{in_cons, in_none, in_first, in_rest}
@@ -31,6 +32,7 @@ use Rattle.guiding.specs.inner.Searching.{AreMore, HasSpaces, IsOfNew, IsSeen}
 use Rattle.guiding.specs.inner.Turning.{IsAdding}
 use Rattle.guiding.specs.inner.Following as following
 use Rattle.guiding.proofs.Guides.{lone_one, spaces_wider}
+use Rattle.guiding.proofs.Noting.{given_less}
 use Rattle.guiding.proofs.Seen.{seen_wider}
 use Rattle.guiding.specs.inner.Guides.{AreAll, AreFirst, AreStored, CanAsk, EncodedView, IsAskedFor, IsAsking}
 use Rattle.guiding.specs.inner.Guides.{IsOfInstance}
@@ -118,19 +120,24 @@ said_long q vs asked wide spaces whole spaced x ts says u z e = by (slice_get vs
         (length (space q y)) (sym (says.each u y f) ∙ e) (λ m h. mapped_long q y (states_at ts y) m h) in
         long ∙ ap (λ w. length (space q w)) (sym same) ∙ sym r.2 ∙ sym (lengths_at asked u) ∙ sym (spaced.each u)
 
-pub of_all : (q : Problem) (vs : Numbering) (p : Pair) (xs : List Given) → IsGivenAt q vs p xs → AreOfPair q vs p xs
+pub of_all : (q : Problem) (vs : Numbering) (p : Pair) (xs : List Given) → IsGivenAt q vs p xs → IsGivenFirst q vs p xs
 of_all q vs p xs is = record {
   causes = is.causes;
-  are = λ c h. let r = (is.are.listed c).0 h in (r.0, subst (Contains (pairs_of c)) r.1 (first_named c));
+  there = λ c h. let r = (is.are.listed c).0 h in (r.0, subst (Contains (pairs_of c)) r.1 (first_named c));
+  all = λ c t here alone. elim (alone (first_pair c) (first_named c)) [
+    | inl e ↦ (is.are.listed c).1 (t, e)
+    | inr x ↦ absurd x
+  ];
   given = is.given;
 }
 
--- whichever instances come, they are of the pair
+-- in both cases those that name no other pair come, and all that come name this one
 pub given_how : {v i : ℕ} {old new : EncodedView} {t wide : TrailView} {es more : List EntryView}
     (a : IsAsking v i old new t wide es more) (w : Vertex) → slice_get old.vertices v ≡ Some w
-    → AreOfPair old.problem new.vertices (w, state_at old.problem w i) a.given
+    → IsGivenFirst old.problem new.vertices (w, state_at old.problem w i) a.given
 given_how {i = i} {old = old} {new = new} a w at = elim a.how [
-  | inl all ↦ let is = all.is w at in record { causes = is.causes; are = is.there; given = is.given }
+  | inl all ↦ given_less old.problem new.vertices (IsAskedFor old.problem old.vertices old.asked) (λ r. ⊥)
+      (w, state_at old.problem w i) a.given (λ r x. absurd x) (all.is w at)
   | inr first ↦ first.is w at
 ]
 
@@ -183,7 +190,7 @@ module _ {v i : ℕ} {old new : EncodedView} {t wide : TrailView} {es more : Lis
       × (length (set_of old.asked v) ≡ length (space old.problem w))
   at_v = on_trail_at old.problem old.vertices old.asked v a.spaces inside
 
-  is_given : AreOfPair old.problem new.vertices (at_v.0, state_at old.problem at_v.0 i) a.given
+  is_given : IsGivenFirst old.problem new.vertices (at_v.0, state_at old.problem at_v.0 i) a.given
   is_given = given_how a at_v.0 at_v.1
 
   now_at : slice_get new.vertices v ≡ Some at_v.0
@@ -231,7 +238,7 @@ module _ {v i : ℕ} {old new : EncodedView} {t wide : TrailView} {es more : Lis
       → IsOfNew (length t.sets) (asked_of old.asked) (entry (map as_entry a.given) k)
   new_one k within =
       let g = given_at old.problem new.vertices is_given.causes a.given k is_given.given within in
-      let is = is_given.are g.cause g.listed in
+      let is = is_given.there g.cause g.listed in
       let first = named_only old.problem new.vertices
       (entry (map as_entry a.given) k).terms g.cause v i at_v.0 a.catalogue is.0 g.says now_at some fits is.1 in
       record {
@@ -340,7 +347,7 @@ module _ {v i : ℕ} {old new : EncodedView} {t wide : TrailView} {es more : Lis
             ∙ get_or-append_right es (map as_entry a.given) (length es) id no_entry refl ge in
             let g = given_at old.problem new.vertices is_given.causes a.given (id - length es) is_given.given
             (omega (arith, within, ge, ap length entries, length-append es (map as_entry a.given))) in
-            let is = is_given.are g.cause g.listed in
+            let is = is_given.there g.cause g.listed in
             subst (IsOfInstance old.problem new.vertices) (sym same)
             (record {
               kind = kind_of g.cause;

@@ -15,8 +15,8 @@ use Rattle.model.specs.Order.{IsCatalogue}
 use Rattle.numbering.specs.inner.Assignments.{state_at}
 use Rattle.numbering.specs.inner.KnownProblem.{KnowsDefault, problem}
 use Rattle.numbering.specs.Numberings.{IsGrown, IsNumbering, Numbering}
-use Rattle.numbering.specs.inner.AskedFor.{IsGivenNext}
-use Rattle.numbering.specs.Pairs.{AreOfPair, Given}
+use Rattle.numbering.specs.inner.AskedFor.{IsGivenFirst, IsGivenNext}
+use Rattle.numbering.specs.Pairs.{Given}
 use Rattle.numbering.specs.declared.known_problem.KnownProblem.{KnownProblem}
 use Rattle.guiding.specs.inner.Searching.{HasSpaces, IsOnly, IsSeen, Pairs}
 use Rattle.guiding.specs.inner.Searching as searching
@@ -113,7 +113,7 @@ module _ (i : KnownProblem) (vs new : Numbering) (asked mid last : List Members)
 
   -- the first of them
   pub beginning_by : ((w : Vertex) → slice_get vs v ≡ Some w
-      → AreOfPair (problem i) new (w, state_at (problem i) w s) given) → last ≡ mid → n ≡ suc m
+      → IsGivenFirst (problem i) new (w, state_at (problem i) w s) given) → last ≡ mid → n ≡ suc m
       → IsAsking v s old after t wide es more
   beginning_by is same e = by_how (inr (record { marks = same ∙ come.sets; is = is; begins = e }))
 

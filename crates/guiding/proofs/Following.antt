@@ -23,9 +23,10 @@ use Rattle.model.proofs.Lists.{pairs_first, pairs_rest}
 use Rattle.model.proofs.Places.{got_in}
 use Rattle.model.specs.Causes.{kind_of, terms_of_cause}
 use Rattle.model.proofs.CauseLaws.{cause_instance}
+use Rattle.numbering.specs.inner.AskedFor.{IsGivenFirst}
 use Rattle.numbering.specs.inner.Assignments.{IsOf, state_at}
 use Rattle.numbering.specs.Numberings.{IsGrown, Numbering}
-use Rattle.numbering.specs.Pairs.{AreOfPair, Given, Pair}
+use Rattle.numbering.specs.Pairs.{Given, Pair}
 use Rattle.numbering.proofs.Distinct.{states_once}
 use Rattle.numbering.proofs.Needing.{still_at}
 use Rattle.numbering.proofs.Sound.{breaks_none, has_assignment}
@@ -82,7 +83,7 @@ module _ (q : Problem) (vs : Numbering) (content : Content) (x : Assignment) (of
 
   -- instances that come aren't broken
   pub more_unbroken : (p : Pair) (es more : List EntryView) (given : List Given) → IsCatalogue q
-      → IsValidSelection q content → AreOfPair q vs p given → more ≡ es ++ map as_entry given
+      → IsValidSelection q content → IsGivenFirst q vs p given → more ≡ es ++ map as_entry given
       → BreaksNone x es → BreaksNone x more
   more_unbroken p es more given known valid is entries none id within broken = elim (cases_lt id (length es)) [
     | inl less ↦
@@ -95,7 +96,7 @@ module _ (q : Problem) (vs : Numbering) (content : Content) (x : Assignment) (of
         ∙ get_or-append_right es (map as_entry given) (length es) id no_entry refl ge in
         let g = given_at q vs is.causes given (id - length es) is.given
         (omega (arith, within, ge, ap length entries, length-append es (map as_entry given))) in
-        let there = is.are g.cause g.listed in
+        let there = is.there g.cause g.listed in
         breaks_none q vs content x of (kind_of g.cause) (terms_of_cause q g.cause)
         (entry (map as_entry given) (id - length es)).terms known valid (cause_instance q g.cause there.0) g.says
         (subst (λ (e : EntryView). Breaks x (states_at e.terms)) same broken)
@@ -118,7 +119,7 @@ module _ {v i : ℕ} {old new : EncodedView} {t wide : TrailView} {es more : Lis
         old.problem old.vertices new.vertices f.0 x a.grown (subst (λ q. IsOf q new.vertices f.0 x) a.same f.3),
   )
 
-  left_on : (p : Pair) → AreOfPair old.problem new.vertices p a.given → HasSpaces (map length new.asked) wide
+  left_on : (p : Pair) → IsGivenFirst old.problem new.vertices p a.given → HasSpaces (map length new.asked) wide
       → (x : Assignment) → Follows new x → IsLeft x es t → IsLeft x more wide
   left_on p is spaced x f is_left =
       let of : IsOf old.problem new.vertices f.0 x = subst (λ q. IsOf q new.vertices f.0 x) a.same f.3 in

@@ -164,13 +164,13 @@ module _ (q : Problem) (ps : List (ℕ × Class)) where
         (ap not (ne_eqb i j ne)) (subst (λ n. same_text d.real_name n ≡ true) same (text-refl d.real_name)),
   )
 
+  same_number : (o : Owner) (i j : ℕ) → dep o i ≡ dep o j → i ≡ j
+  same_number o i j e = cc
+
   -- another pair than this one is noted
   others : (ns : Noted) (o : Owner) (i j : ℕ) (k m : Class) → (j ≡ i → ⊥)
       → IsOrNoted ns (dep o i, in_class k) (dep o j, in_class m) → IsNoted q ns (dep o j, in_class m)
-  others ns o i j k m ne (inl x) = absurd (ne (inner o j i (ap (λ (p : Pair). p.0) x)))
-    where
-      inner : (o : Owner) (i j : ℕ) → dep o i ≡ dep o j → i ≡ j
-      inner o i j e = cc
+  others ns o i j k m ne (inl x) = absurd (ne (same_number o j i (ap (λ (p : Pair). p.0) x)))
   others ns o i j k m ne (inr noted) = noted
 
   both_in : (o : Owner) (i j : ℕ) (k m : Class) (d : Dependency) (c : Cause) → dependency_at q o i ≡ Some d
@@ -214,18 +214,43 @@ module _ (q : Problem) (ps : List (ℕ × Class)) where
             (Contains-append_right (newest_of q o j m i k) (newest_of q o i k j m) c higher))
       ]
 
-  pub next_listed : (ns : Noted) (v : Vertex) (s : State) (c : Cause) → AreBeside q ns (v, s) ps → is_cause q c ≡ true
-      → Contains (pairs_of c) (v, s)
-      → ((r : Pair) → Contains (pairs_of c) r → (r ≡ (v, s)) ⊎ IsNoted q ns r)
-      → Contains (asked_causes q ps v s) c
-  next_listed ns v s of_root are t here all = one_in of_root v s t refl here
-  next_listed ns v s (of_need o i) are t here all = one_in (of_need o i) v s t refl here
-  next_listed ns v s (of_target o i k) are t here all = one_in (of_target o i k) v s t refl here
-  next_listed ns v s (of_feature name k f) are t here all = one_in (of_feature name k f) v s t refl here
-  next_listed ns v s (of_list o i k g) are t here all = one_in (of_list o i k g) v s t refl here
-  next_listed ns v s (of_ask name w i g k) are t here all = one_in (of_ask name w i g k) v s t refl here
-  next_listed ns v s (of_entry name w f g) are t here all = one_in (of_entry name w f g) v s t refl here
-  next_listed ns v s (of_enabling name w f e i) are t here all = one_in (of_enabling name w f e i) v s t refl here
-  next_listed ns v s (of_asking name w f g i) are t here all = one_in (of_asking name w f g i) v s t refl here
-  next_listed ns v s (of_newest o i j k m) are t here all = newest_in ns o i j k m v s are t here all
-  next_listed ns v s (of_weak name w f g i k) are t here all = one_in (of_weak name w f g i k) v s t refl here
+  -- ---- so each that names the pair, and none beside it but those that were noted
+
+  -- a cause names one pair, or two dependencies
+  by_pairs : (P : Cause → Type 0) → ((c : Cause) → pairs_of c ≡ first_pair c ∷ [] → P c)
+      → ((o : Owner) (i j : ℕ) (k m : Class) → P (of_newest o i j k m)) → (c : Cause) → P c
+  by_pairs P one two of_root = one of_root refl
+  by_pairs P one two (of_need o i) = one (of_need o i) refl
+  by_pairs P one two (of_target o i k) = one (of_target o i k) refl
+  by_pairs P one two (of_feature name k f) = one (of_feature name k f) refl
+  by_pairs P one two (of_list o i k g) = one (of_list o i k g) refl
+  by_pairs P one two (of_ask name w i g k) = one (of_ask name w i g k) refl
+  by_pairs P one two (of_entry name w f g) = one (of_entry name w f g) refl
+  by_pairs P one two (of_enabling name w f e i) = one (of_enabling name w f e i) refl
+  by_pairs P one two (of_asking name w f g i) = one (of_asking name w f g i) refl
+  by_pairs P one two (of_newest o i j k m) = two o i j k m
+  by_pairs P one two (of_weak name w f g i k) = one (of_weak name w f g i k) refl
+
+  -- a cause of the pair that names others only of a kind is listed
+  abbrev IsListed : (Pair → Type 0) → Vertex → State → Cause → Type 0
+  IsListed Is v s c = is_cause q c ≡ true → Contains (pairs_of c) (v, s)
+      → ((r : Pair) → Contains (pairs_of c) r → (r ≡ (v, s)) ⊎ Is r) → Contains (asked_causes q ps v s) c
+
+  pub next_listed : (ns : Noted) (v : Vertex) (s : State) (c : Cause) → AreBeside q ns (v, s) ps
+      → IsListed (IsNoted q ns) v s c
+  next_listed ns v s c are = by_pairs (IsListed (IsNoted q ns) v s) (λ c one t here all. one_in c v s t one here)
+      (λ o i j k m. newest_in ns o i j k m v s are) c
+
+  -- two dependencies aren't one pair
+  pub first_listed : (v : Vertex) (s : State) (c : Cause) → IsListed (λ r. ⊥) v s c
+  first_listed v s = by_pairs (IsListed (λ r. ⊥) v s) (λ c one t here all. one_in c v s t one here)
+      (λ o i j k m t here all.
+      let first : Pair = (dep o i, in_class k) in
+      let second : Pair = (dep o j, in_class m) in
+      let one = alone first (all first (in_first first (second ∷ []))) in
+      let other = alone second (all second (in_rest first second (second ∷ []) (in_first second []))) in
+      absurd ((newest_names o i j k m t).0 (same_number o i j (ap (λ (p : Pair). p.0) (one ∙ sym other)))))
+    where
+      alone : (r : Pair) → (r ≡ (v, s)) ⊎ ⊥ → r ≡ (v, s)
+      alone r (inl e) = e
+      alone r (inr x) = absurd x

@@ -70,12 +70,6 @@ pub record IsGivenAt (q : Problem) (vs : Numbering) (p : Pair) (xs : List Given)
   pub are : AreCausesAt q p causes
   pub given : AreGiven q vs causes xs
 
--- instances of causes that name the pair, whichever
-pub record AreOfPair (q : Problem) (vs : Numbering) (p : Pair) (xs : List Given) : Type 0 where
-  pub causes : List Cause
-  pub are : (c : Cause) → Contains causes c → (is_cause q c ≡ true) × Contains (pairs_of c) p
-  pub given : AreGiven q vs causes xs
-
 -- the vertices of a cause's instance, those of full terms too
 abbrev pub spoken_by : Problem → Cause → List Vertex
 spoken_by q c = map (λ t. t.vertex) (terms_of_cause q c)

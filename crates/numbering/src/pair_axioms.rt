@@ -3,18 +3,16 @@
 ghost use Rattle.std.specs.Prelude.{◌≡◌, ◌<◌, ◌++◌, ◌∷◌, [], true, Contains, List, Some, IfOk, OnOk, length};
 ghost use Rattle.std.specs.Prelude.{slice_get};
 ghost use Rattle.std.specs.List.{AllByRecursion};
-ghost use Rattle.model.specs.Axioms.{IsVertex};
 ghost use Rattle.model.specs.Vertices.{Vertex, space};
 ghost use Rattle.model.specs.Causes as causes;
 ghost use Rattle.model.specs.Causes.{is_cause};
-ghost use Rattle.numbering.specs.inner.AskedFor.{IsGivenNext, IsNoted, KeepsNoted};
+ghost use Rattle.numbering.specs.inner.AskedFor.{IsGivenFirst, IsGivenNext, IsNoted, KeepsNoted};
 ghost use Rattle.numbering.specs.inner.Assignments.{state_at};
 ghost use Rattle.numbering.specs.GivenViews.{cause_views, given_views};
 ghost use Rattle.lookups.specs.inner.CauseViews.{cause_view};
 ghost use Rattle.numbering.specs.inner.KnownProblem.{KnowsDefault, problem};
 ghost use Rattle.numbering.specs.Numberings.{AddsOnly, IsGrown, IsNumbering};
-ghost use Rattle.numbering.specs.Pairs.{AreGiven, AreOfPair, IsCauseAt, IsGivenAt, IsSpokenOf, spoken_by};
-ghost use Rattle.vertices.specs.inner.RefViews.{state_ref_view, vertex_ref_view};
+ghost use Rattle.numbering.specs.Pairs.{AreGiven, IsCauseAt, IsGivenAt, IsSpokenOf, spoken_by};
 
 use crate::instances::instance;
 use crate::known_problem::KnownProblem;
@@ -26,7 +24,7 @@ use incompatibilities::Incompatibility;
 use lookups::Cause;
 use std::alloc::{AllocError, Global};
 use version_sets::States;
-use vertices::{Kind, StateRef, VertexRef};
+use vertices::Kind;
 
 /// The instances that have the vertex of this number in the state of this number as their first term, each once, with
 /// its kind; their vertices get numbers where they have none, and no others do.
@@ -48,14 +46,16 @@ pub fn axioms_at<'a, S: States + Drop>(
     ensures given { IfOk result (λ xs. (v : Vertex) → slice_get table.old number ≡ Some v → IsGivenAt
         (problem known.now) table.new (v, state_at (problem known.now) v state) (given_views S.tests xs.items)) }
 {
-    match table.vertex(number) {
-        Some(vertex) => vertex_axioms(alloc, known, table, vertex, state),
-        None => Ok(Vec::new(alloc)),
-    }
+    let Some(vertex) = table.vertex(number) else {
+        return Ok(Vec::new(alloc));
+    };
+    let state = state_at(alloc, known, &vertex, state)?;
+    let causes = causes_at(alloc, known, vertex, state)?;
+    instances(alloc, known, table, causes.as_slice())
 }
 
-/// Of the same those that come where no other pair was asked for: of a dependency in a class those that speak of no
-/// other one. So what the class itself rules out is found before the other dependencies on the package are looked at.
+/// Of the same just those that come where no other pair was asked for: of a dependency in a class those that speak of
+/// no other one. So what the class itself rules out is found before the other dependencies on the package are looked at.
 pub fn first_axioms_at<'a, S: States + Drop>(
     alloc: Global,
     known: &KnownProblem<'a>,
@@ -69,13 +69,15 @@ pub fn first_axioms_at<'a, S: States + Drop>(
         → state < length (space (problem known.now) v) }
     ensures grown { IsGrown table.old table.new }
     ensures numbering { IsNumbering (problem known.now) table.new }
-    ensures given { IfOk result (λ xs. (v : Vertex) → slice_get table.old number ≡ Some v → AreOfPair
+    ensures given { IfOk result (λ xs. (v : Vertex) → slice_get table.old number ≡ Some v → IsGivenFirst
         (problem known.now) table.new (v, state_at (problem known.now) v state) (given_views S.tests xs.items)) }
 {
-    match table.vertex(number) {
-        Some(vertex) => first_axioms(alloc, known, table, vertex, state),
-        None => Ok(Vec::new(alloc)),
-    }
+    let Some(vertex) = table.vertex(number) else {
+        return Ok(Vec::new(alloc));
+    };
+    let state = state_at(alloc, known, &vertex, state)?;
+    let causes = causes_asked(alloc, known, &[], vertex, state)?;
+    instances(alloc, known, table, causes.as_slice())
 }
 
 /// Of the same those that a search needs which asks for one pair after another, and notes each: of a dependency in a
@@ -102,118 +104,12 @@ pub fn next_axioms_at<'a, S: States + Drop>(
         (problem known.now) table.new (IsNoted (problem known.now) noted.old)
         (v, state_at (problem known.now) v state) (given_views S.tests xs.items)) }
 {
-    match table.vertex(number) {
-        Some(vertex) => next_axioms(alloc, known, table, noted, vertex, state),
-        None => Ok(Vec::new(alloc)),
-    }
-}
-
-/// The same of a vertex.
-fn next_axioms<'a, S: States + Drop>(
-    alloc: Global,
-    known: &KnownProblem<'a>,
-    table: &mut Table<'a>,
-    noted: &mut Noted<'a>,
-    vertex: VertexRef<'a>,
-    number: usize,
-) -> Result<Vec<(Kind, Incompatibility<S>)>, AllocError>
-    requires default { KnowsDefault known.now }
-    requires numbering { IsNumbering (problem known.now) table.old }
-    requires vertex { IsVertex (problem known.now) (vertex_ref_view vertex) }
-    requires state { number < length (space (problem known.now) (vertex_ref_view vertex)) }
-    ensures grown { IsGrown table.old table.new }
-    ensures numbering { IsNumbering (problem known.now) table.new }
-    ensures kept { KeepsNoted noted.old noted.new }
-    ensures noted { OnOk result (IsNoted (problem known.now) noted.new (
-      vertex_ref_view vertex.entry,
-      state_at (problem known.now) (vertex_ref_view vertex.entry) number,
-    )) }
-    ensures given { IfOk result
-        (λ xs. IsGivenNext (problem known.now) table.new (IsNoted (problem known.now) noted.old) (
-          vertex_ref_view vertex.entry,
-          state_at (problem known.now) (vertex_ref_view vertex.entry) number,
-        ) (given_views S.tests xs.items)) }
-{
-    let state = state_at(alloc, known, &vertex, number)?;
+    let Some(vertex) = table.vertex(number) else {
+        return Ok(Vec::new(alloc));
+    };
+    let state = state_at(alloc, known, &vertex, state)?;
     let those = noted.note(alloc, known, vertex, state)?;
     let causes = causes_asked(alloc, known, those.as_slice(), vertex, state)?;
-    instances(alloc, known, table, causes.as_slice())
-}
-
-/// The same of a vertex.
-fn first_axioms<'a, S: States + Drop>(
-    alloc: Global,
-    known: &KnownProblem<'a>,
-    table: &mut Table<'a>,
-    vertex: VertexRef<'a>,
-    number: usize,
-) -> Result<Vec<(Kind, Incompatibility<S>)>, AllocError>
-    requires default { KnowsDefault known.now }
-    requires numbering { IsNumbering (problem known.now) table.old }
-    requires vertex { IsVertex (problem known.now) (vertex_ref_view vertex) }
-    requires state { number < length (space (problem known.now) (vertex_ref_view vertex)) }
-    ensures grown { IsGrown table.old table.new }
-    ensures numbering { IsNumbering (problem known.now) table.new }
-    ensures given { IfOk result (λ xs. AreOfPair (problem known.now) table.new (
-      vertex_ref_view vertex.entry,
-      state_at (problem known.now) (vertex_ref_view vertex.entry) number,
-    ) (given_views S.tests xs.items)) }
-{
-    let state = state_at(alloc, known, &vertex, number)?;
-    let causes = causes_asked(alloc, known, &[], vertex, state)?;
-    instances(alloc, known, table, causes.as_slice())
-}
-
-/// The same of a vertex.
-fn vertex_axioms<'a, S: States + Drop>(
-    alloc: Global,
-    known: &KnownProblem<'a>,
-    table: &mut Table<'a>,
-    vertex: VertexRef<'a>,
-    number: usize,
-) -> Result<Vec<(Kind, Incompatibility<S>)>, AllocError>
-    requires default { KnowsDefault known.now }
-    requires numbering { IsNumbering (problem known.now) table.old }
-    requires vertex { IsVertex (problem known.now) (vertex_ref_view vertex) }
-    requires state { number < length (space (problem known.now) (vertex_ref_view vertex)) }
-    ensures grown { IsGrown table.old table.new }
-    ensures numbering { IsNumbering (problem known.now) table.new }
-    ensures only { AddsOnly
-        (IsSpokenOf (problem known.now) (IsCauseAt (problem known.now) (
-          vertex_ref_view vertex.entry,
-          state_at (problem known.now) (vertex_ref_view vertex.entry) number,
-        ))) table.old table.new }
-    ensures given { IfOk result (λ xs. IsGivenAt (problem known.now) table.new (
-      vertex_ref_view vertex.entry,
-      state_at (problem known.now) (vertex_ref_view vertex.entry) number,
-    ) (given_views S.tests xs.items)) }
-{
-    let state = state_at(alloc, known, &vertex, number)?;
-    axioms_of(alloc, known, table, vertex, state)
-}
-
-/// The instances that have the vertex in the state as their first term, each once, with its kind; their vertices get
-/// numbers where they have none, and no others do. Who has the states of a vertex at hand need not look each up by its
-/// number.
-pub fn axioms_of<'a, S: States + Drop>(
-    alloc: Global,
-    known: &KnownProblem<'a>,
-    table: &mut Table<'a>,
-    vertex: VertexRef<'a>,
-    state: StateRef<'a>,
-) -> Result<Vec<(Kind, Incompatibility<S>)>, AllocError>
-    requires default { KnowsDefault known.now }
-    requires numbering { IsNumbering (problem known.now) table.old }
-    requires vertex { IsVertex (problem known.now) (vertex_ref_view vertex) }
-    requires state { Contains (space (problem known.now) (vertex_ref_view vertex)) (state_ref_view state) }
-    ensures grown { IsGrown table.old table.new }
-    ensures numbering { IsNumbering (problem known.now) table.new }
-    ensures only { AddsOnly (IsSpokenOf (problem known.now) (IsCauseAt (problem known.now)
-        (vertex_ref_view vertex.entry, state_ref_view state.entry))) table.old table.new }
-    ensures given { IfOk result (λ xs. IsGivenAt (problem known.now) table.new
-        (vertex_ref_view vertex.entry, state_ref_view state.entry) (given_views S.tests xs.items)) }
-{
-    let causes = causes_at(alloc, known, vertex, state)?;
     instances(alloc, known, table, causes.as_slice())
 }
 

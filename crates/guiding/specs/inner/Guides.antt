@@ -23,8 +23,8 @@ use Rattle.model.specs.inner.Search.{IsUnbroken}
 use Rattle.numbering.specs.inner.Assignments.{IsOf, state_at, state_of}
 use Rattle.numbering.specs.inner.KnownProblem.{KnowsDefault, problem}
 use Rattle.numbering.specs.Numberings.{IsGrown, IsNumbering, Numbering, Says, number_in}
-use Rattle.numbering.specs.inner.AskedFor.{IsGivenNext, IsNoted}
-use Rattle.numbering.specs.Pairs.{AreOfPair, Given, Pair, pairs_of}
+use Rattle.numbering.specs.inner.AskedFor.{IsGivenFirst, IsGivenNext, IsNoted}
+use Rattle.numbering.specs.Pairs.{Given, Pair, pairs_of}
 use Rattle.numbering.specs.declared.known_problem.KnownProblem.{KnownProblem}
 use Rattle.numbering.specs.declared.noted.Noted.{Noted}
 use Rattle.incompatibilities.specs.inner.Counts.{combinations}
@@ -187,11 +187,11 @@ pub record AreAll (v i : ℕ) (old new : EncodedView) (came : List ℕ) (given :
       (w, state_at old.problem w i) given
   pub begins : new.to_begin ≡ old.to_begin
 
--- a pair is begun with: some of its instances are given
+-- a pair is begun with: all its instances are given that name no other pair
 pub record AreFirst (v i : ℕ) (old new : EncodedView) (came : List ℕ) (given : List Given) : Type 0 where
   pub marks : new.asked ≡ old.asked ++ map none came
   pub is : (w : Vertex) → slice_get old.vertices v ≡ Some w
-      → AreOfPair old.problem new.vertices (w, state_at old.problem w i) given
+      → IsGivenFirst old.problem new.vertices (w, state_at old.problem w i) given
   pub begins : old.to_begin ≡ suc new.to_begin
 
 -- the instances of a pair, or the first of them, come into the store, and the vertices that they speak of onto the

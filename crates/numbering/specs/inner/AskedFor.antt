@@ -116,3 +116,7 @@ pub record IsGivenNext (q : Problem) (vs : Numbering) (IsBefore : Pair → Type 
   pub all : (c : Cause) → is_cause q c ≡ true → Contains (pairs_of c) p
       → ((r : Pair) → Contains (pairs_of c) r → (r ≡ p) ⊎ IsBefore r) → Contains causes c
   pub given : AreGiven q vs causes xs
+
+-- and where no other was asked for
+abbrev pub IsGivenFirst : Problem → Numbering → Pair → List Given → Type 0
+IsGivenFirst q vs p xs = IsGivenNext q vs (λ r. ⊥) p xs

@@ -1,59 +1,74 @@
-use Rattle.std.proofs.Common.{◌≡◌, Some, sym, ap, ◌∙◌, slice_get, subst}
-use Rattle.std.specs.Prelude.{option_map}
-use Rattle.std.proofs.lemmas.Option.{none-some, same_Some}
+use Rattle.std.proofs.Common.{◌≡◌, Some, sym, ◌∙◌, slice_get, subst}
+use Rattle.std.proofs.lemmas.Option.{none-some}
 use Rattle.std.proofs.lemmas.Result.{IfOk-weaker}
 use Rattle.model.specs.Axioms.{IsVertex}
-use Rattle.model.specs.Vertices.{Vertex}
+use Rattle.model.specs.Vertices.{State, Vertex}
 use Rattle.model.proofs.Members.{element}
 use Rattle.numbering.specs.inner.Assignments.{state_at}
-use Rattle.numbering.specs.GivenViews.{given_views}
+use Rattle.numbering.specs.GivenViews.{cause_views, given_views}
 use Rattle.numbering.specs.inner.KnownProblem.{problem}
 use Rattle.numbering.specs.Numberings.{AddsOnly}
-use Rattle.numbering.specs.Pairs.{IsCauseAt, IsGivenAt, IsSpokenOf}
-use Rattle.vertices.specs.inner.RefViews.{vertex_ref_view}
+use Rattle.numbering.specs.Pairs.{Pair, AreCausesAt, AreGiven, IsCauseAt, IsGivenAt, IsSpokenOf}
+use Rattle.vertices.specs.inner.RefViews.{state_ref_view, vertex_ref_view}
+use Rattle.numbering.proofs.AddLaws.{at_number, causes_there, state_in}
+use Rattle.numbering.proofs.Adds.{pair_adds}
 use Rattle.numbering.proofs.pair_axioms.axioms_at.Goals as goal
 
-pub vertex_axioms-requires-clause-vertex : goal.vertex_axioms-requires-clause-vertex
-vertex_axioms-requires-clause-vertex g c =
-    let q = problem c.args.known.now in
-    element (λ v. IsVertex q v) c.args.table.now c.args.number (vertex_ref_view c.in-Some.vertex)
-    c.requires.numbering.there (sym c.vertex.ensures ∙ ap (option_map vertex_ref_view) c.in-Some.is)
+pub causes_at-requires-clause-vertex : goal.causes_at-requires-clause-vertex
+causes_at-requires-clause-vertex g c =
+    element (IsVertex (problem c.args.known.now)) c.args.table.now c.args.number (vertex_ref_view c.in-Some.vertex)
+    c.requires.numbering.there (sym c.in-Some.ensures)
 
-pub vertex_axioms-requires-clause-state : goal.vertex_axioms-requires-clause-state
-vertex_axioms-requires-clause-state g c =
-    c.requires.state (vertex_ref_view c.in-Some.vertex)
-    (sym c.vertex.ensures ∙ ap (option_map vertex_ref_view) c.in-Some.is)
+pub causes_at-requires-clause-state : goal.causes_at-requires-clause-state
+causes_at-requires-clause-state g c =
+    let v = vertex_ref_view c.in-Some.vertex in
+    state_in (problem c.args.known.now) v c.args.state (state_ref_view c.in_ok-state.state)
+    (c.requires.state v (sym c.in-Some.ensures)) c.in_ok-state.ensures
 
-pub returns-in-Some-clause-given : goal.returns-in-Some-clause-given
-returns-in-Some-clause-given g c =
+pub instances-requires-clause-there : goal.instances-requires-clause-there
+instances-requires-clause-there g c =
     let q = problem c.args.known.now in
-    let w = vertex_ref_view c.in-Some.vertex in
+    let p : Pair = (vertex_ref_view c.in-Some.vertex, state_ref_view c.in_ok-state.state) in
+    causes_there q p (cause_views c.as_slice.result.now)
+    (subst (λ l. AreCausesAt q p (cause_views l)) (sym c.as_slice.ensures.keys) c.in_ok-causes.ensures)
+
+pub returns-clause-given : goal.returns-clause-given
+returns-clause-given g c =
+    let q = problem c.args.known.now in
+    let v = vertex_ref_view c.in-Some.vertex in
+    let p : Pair = (v, state_ref_view c.in_ok-state.state) in
     let n = c.args.state in
-    let new = c.vertex_axioms.new.table in
-    let seen : slice_get c.args.table.now c.args.number ≡ Some w =
-    sym c.vertex.ensures ∙ ap (option_map vertex_ref_view) c.in-Some.is in
-    IfOk-weaker c.vertex_axioms.result
-    (λ xs. IsGivenAt q new (w, state_at q w n) (given_views g.S.States.tests xs.items))
-    (λ xs. (v : Vertex) → slice_get c.args.table.now c.args.number ≡ Some v
-    → IsGivenAt q new (v, state_at q v n) (given_views g.S.States.tests xs.items))
-    (λ xs given v e. subst (λ (u : Vertex). IsGivenAt q new (u, state_at q u n)
-    (given_views g.S.States.tests xs.items)) (same_Some w v (sym seen ∙ e)) given)
-    c.vertex_axioms.ensures.given
+    let new = c.instances.new.table in
+    let cs = cause_views c.as_slice.result.now in
+    let tests = g.S.States.tests in
+    IfOk-weaker c.instances.result (λ xs. AreGiven q new cs (given_views tests xs.items))
+    (λ xs. (w : Vertex) → slice_get c.args.table.now c.args.number ≡ Some w
+    → IsGivenAt q new (w, state_at q w n) (given_views tests xs.items))
+    (λ xs given. at_number (λ u. IsGivenAt q new (u, state_at q u n) (given_views tests xs.items)) c.args.table.now
+    c.args.number v c.in-Some.ensures
+    (subst (λ (s : State). IsGivenAt q new (v, s) (given_views tests xs.items)) c.in_ok-state.ensures (record {
+      causes = cs;
+      are = subst (λ l. AreCausesAt q p (cause_views l)) (sym c.as_slice.ensures.keys) c.in_ok-causes.ensures;
+      given = given;
+    })))
+    c.instances.ensures.given
 
-pub returns-in-None-clause-given : goal.returns-in-None-clause-given
-returns-in-None-clause-given g c =
-    λ v e. absurd (none-some v (sym (sym c.vertex.ensures ∙ ap (option_map vertex_ref_view) c.in-None.is) ∙ e))
-
-pub returns-in-Some-clause-only : goal.returns-in-Some-clause-only
-returns-in-Some-clause-only g c = λ v e.
+pub returns-clause-only : goal.returns-clause-only
+returns-clause-only g c =
     let q = problem c.args.known.now in
-    let w = vertex_ref_view c.in-Some.vertex in
+    let v = vertex_ref_view c.in-Some.vertex in
+    let p : Pair = (v, state_ref_view c.in_ok-state.state) in
     let n = c.args.state in
-    let seen : slice_get c.args.table.now c.args.number ≡ Some w =
-    sym c.vertex.ensures ∙ ap (option_map vertex_ref_view) c.in-Some.is in
-    subst (λ (u : Vertex). AddsOnly (IsSpokenOf q (IsCauseAt q (u, state_at q u n))) c.args.table.now
-    c.vertex_axioms.new.table) (same_Some w v (sym seen ∙ e)) c.vertex_axioms.ensures.only
+    let old = c.args.table.now in
+    let new = c.instances.new.table in
+    at_number (λ u. AddsOnly (IsSpokenOf q (IsCauseAt q (u, state_at q u n))) old new) old c.args.number v
+    c.in-Some.ensures (subst (λ (s : State). AddsOnly (IsSpokenOf q (IsCauseAt q (v, s))) old new)
+    c.in_ok-state.ensures (pair_adds q p (cause_views c.as_slice.result.now) old new
+    (subst (λ l. AreCausesAt q p (cause_views l)) (sym c.as_slice.ensures.keys) c.in_ok-causes.ensures)
+    c.instances.ensures.only))
 
-pub returns-in-None-clause-only : goal.returns-in-None-clause-only
-returns-in-None-clause-only g c =
-    λ v e. absurd (none-some v (sym (sym c.vertex.ensures ∙ ap (option_map vertex_ref_view) c.in-None.is) ∙ e))
+pub returns-in_default-clause-given : goal.returns-in_default-clause-given
+returns-in_default-clause-given g c = λ v e. absurd (none-some v (c.in_default.ensures ∙ e))
+
+pub returns-in_default-clause-only : goal.returns-in_default-clause-only
+returns-in_default-clause-only g c = λ v e. absurd (none-some v (c.in_default.ensures ∙ e))

@@ -1,44 +1,61 @@
-use Rattle.std.proofs.Common.{◌≡◌, Some, sym, ap, ◌∙◌, slice_get, subst}
-use Rattle.std.specs.Prelude.{option_map}
-use Rattle.std.proofs.lemmas.Option.{none-some, same_Some}
+use Rattle.std.proofs.Common.{◌≡◌, Contains, [], Some, sym, ap, ◌∙◌, slice_get, subst}
+use Rattle.std.proofs.lemmas.Option.{none-some}
 use Rattle.std.proofs.lemmas.Result.{IfOk-weaker}
 use Rattle.model.specs.Axioms.{IsVertex}
-use Rattle.model.specs.Vertices.{Vertex}
+use Rattle.model.specs.Vertices.{State, Vertex}
 use Rattle.model.proofs.Members.{element}
+use Rattle.numbering.specs.inner.AskedFor.{IsGivenFirst, asked_causes}
 use Rattle.numbering.specs.inner.Assignments.{state_at}
-use Rattle.numbering.specs.GivenViews.{given_views}
+use Rattle.numbering.specs.inner.CausesAt.{with_causes}
+use Rattle.numbering.specs.GivenViews.{cause_views, given_views}
 use Rattle.numbering.specs.inner.KnownProblem.{problem}
-use Rattle.numbering.specs.Pairs.{AreOfPair}
-use Rattle.vertices.specs.inner.RefViews.{vertex_ref_view}
+use Rattle.numbering.specs.Pairs.{AreGiven}
+use Rattle.vertices.specs.inner.RefViews.{state_ref_view, vertex_ref_view}
+use Rattle.numbering.proofs.AddLaws.{all_there, at_number, state_in}
+use Rattle.numbering.proofs.Overtaken.{first_listed, next_there}
+use Rattle.numbering.proofs.SameCauses.{same_ones}
 use Rattle.numbering.proofs.pair_axioms.first_axioms_at.Goals as goal
 
-pub first_axioms-requires-clause-vertex : goal.first_axioms-requires-clause-vertex
-first_axioms-requires-clause-vertex g c =
+pub instances-requires-clause-there : goal.instances-requires-clause-there
+instances-requires-clause-there g c =
     let q = problem c.args.known.now in
-    element (λ v. IsVertex q v) c.args.table.now c.args.number (vertex_ref_view c.in-Some.vertex)
-    c.requires.numbering.there (sym c.vertex.ensures ∙ ap (option_map vertex_ref_view) c.in-Some.is)
+    let v = vertex_ref_view c.in-Some.vertex in
+    let s = state_ref_view c.in_ok-state.state in
+    let is = element (IsVertex q) c.args.table.now c.args.number v c.requires.numbering.there (sym c.in-Some.ensures) in
+    let within =
+    state_in q v c.args.state s (c.requires.state v (sym c.in-Some.ensures)) c.in_ok-state.ensures in
+    let listed = asked_causes q [] v s in
+    let are : cause_views c.as_slice.result.now ≡ with_causes [] listed =
+    ap cause_views c.as_slice.ensures.keys ∙ c.in_ok-causes.ensures in
+    all_there q (cause_views c.as_slice.result.now)
+    (λ x i. (next_there q [] v s is within x ((same_ones listed x).0 (subst (λ l. Contains l x) are i))).0)
 
-pub first_axioms-requires-clause-state : goal.first_axioms-requires-clause-state
-first_axioms-requires-clause-state g c =
-    c.requires.state (vertex_ref_view c.in-Some.vertex)
-    (sym c.vertex.ensures ∙ ap (option_map vertex_ref_view) c.in-Some.is)
-
-pub returns-in-Some-clause-given : goal.returns-in-Some-clause-given
-returns-in-Some-clause-given g c =
+pub returns-clause-given : goal.returns-clause-given
+returns-clause-given g c =
     let q = problem c.args.known.now in
-    let w = vertex_ref_view c.in-Some.vertex in
+    let v = vertex_ref_view c.in-Some.vertex in
+    let s = state_ref_view c.in_ok-state.state in
     let n = c.args.state in
-    let new = c.first_axioms.new.table in
-    let seen : slice_get c.args.table.now c.args.number ≡ Some w =
-    sym c.vertex.ensures ∙ ap (option_map vertex_ref_view) c.in-Some.is in
-    IfOk-weaker c.first_axioms.result
-    (λ xs. AreOfPair q new (w, state_at q w n) (given_views g.S.States.tests xs.items))
-    (λ xs. (v : Vertex) → slice_get c.args.table.now c.args.number ≡ Some v
-    → AreOfPair q new (v, state_at q v n) (given_views g.S.States.tests xs.items))
-    (λ xs given v e. subst (λ (u : Vertex). AreOfPair q new (u, state_at q u n)
-    (given_views g.S.States.tests xs.items)) (same_Some w v (sym seen ∙ e)) given)
-    c.first_axioms.ensures.given
+    let new = c.instances.new.table in
+    let tests = g.S.States.tests in
+    let is = element (IsVertex q) c.args.table.now c.args.number v c.requires.numbering.there (sym c.in-Some.ensures) in
+    let within = state_in q v n s (c.requires.state v (sym c.in-Some.ensures)) c.in_ok-state.ensures in
+    let listed = asked_causes q [] v s in
+    let cs = cause_views c.as_slice.result.now in
+    let are : cs ≡ with_causes [] listed = ap cause_views c.as_slice.ensures.keys ∙ c.in_ok-causes.ensures in
+    IfOk-weaker c.instances.result (λ xs. AreGiven q new cs (given_views tests xs.items))
+    (λ xs. (w : Vertex) → slice_get c.args.table.now c.args.number ≡ Some w
+    → IsGivenFirst q new (w, state_at q w n) (given_views tests xs.items))
+    (λ xs given. at_number (λ u. IsGivenFirst q new (u, state_at q u n) (given_views tests xs.items)) c.args.table.now
+    c.args.number v c.in-Some.ensures
+    (subst (λ (r : State). IsGivenFirst q new (v, r) (given_views tests xs.items)) c.in_ok-state.ensures (record {
+      causes = cs;
+      there = λ x i. next_there q [] v s is within x ((same_ones listed x).0 (subst (λ l. Contains l x) are i));
+      all = λ x t here alone. subst (λ l. Contains l x) (sym are)
+          ((same_ones listed x).1 (first_listed q [] v s x t here alone));
+      given = given;
+    })))
+    c.instances.ensures.given
 
-pub returns-in-None-clause-given : goal.returns-in-None-clause-given
-returns-in-None-clause-given g c =
-    λ v e. absurd (none-some v (sym (sym c.vertex.ensures ∙ ap (option_map vertex_ref_view) c.in-None.is) ∙ e))
+pub returns-in_default-clause-given : goal.returns-in_default-clause-given
+returns-in_default-clause-given g c = λ v e. absurd (none-some v (c.in_default.ensures ∙ e))

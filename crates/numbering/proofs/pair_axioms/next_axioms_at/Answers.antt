@@ -1,61 +1,79 @@
-use Rattle.std.proofs.Common.{◌≡◌, Some, sym, ap, ◌∙◌, slice_get, subst}
-use Rattle.std.specs.Prelude.{option_map}
-use Rattle.std.proofs.lemmas.Option.{none-some, same_Some}
-use Rattle.std.proofs.lemmas.Result.{IfOk-weaker, on_ok_weaker}
+use Rattle.std.proofs.Common.{◌≡◌, Contains, [], Some, sym, ap, ◌∙◌, slice_get, subst}
+use Rattle.std.proofs.lemmas.Option.{none-some}
+use Rattle.std.proofs.lemmas.Result.{IfOk-weaker}
 use Rattle.model.specs.Axioms.{IsVertex}
-use Rattle.model.specs.Vertices.{Vertex}
+use Rattle.model.specs.Vertices.{State, Vertex}
 use Rattle.model.proofs.Members.{element}
+use Rattle.numbering.specs.inner.AskedFor.{AreBeside, IsGivenNext, IsNoted, asked_causes, noted_views}
 use Rattle.numbering.specs.inner.Assignments.{state_at}
-use Rattle.numbering.specs.GivenViews.{given_views}
+use Rattle.numbering.specs.inner.CausesAt.{with_causes}
+use Rattle.numbering.specs.GivenViews.{cause_views, given_views}
 use Rattle.numbering.specs.inner.KnownProblem.{problem}
-use Rattle.numbering.specs.inner.AskedFor.{IsGivenNext, IsNoted}
-use Rattle.vertices.specs.inner.RefViews.{vertex_ref_view}
+use Rattle.numbering.specs.Pairs.{AreGiven}
+use Rattle.vertices.specs.inner.RefViews.{state_ref_view, vertex_ref_view}
+use Rattle.numbering.proofs.AddLaws.{all_there, at_number, state_in}
+use Rattle.numbering.proofs.ListLaws.{on_ok_always}
+use Rattle.numbering.proofs.Overtaken.{next_listed, next_there}
+use Rattle.numbering.proofs.SameCauses.{same_ones}
 use Rattle.numbering.proofs.pair_axioms.next_axioms_at.Goals as goal
 
-pub next_axioms-requires-clause-vertex : goal.next_axioms-requires-clause-vertex
-next_axioms-requires-clause-vertex g c =
+pub instances-requires-clause-there : goal.instances-requires-clause-there
+instances-requires-clause-there g c =
     let q = problem c.args.known.now in
-    element (λ v. IsVertex q v) c.args.table.now c.args.number (vertex_ref_view c.in-Some.vertex)
-    c.requires.numbering.there (sym c.vertex.ensures ∙ ap (option_map vertex_ref_view) c.in-Some.is)
+    let v = vertex_ref_view c.in-Some.vertex in
+    let s = state_ref_view c.in_ok-state.state in
+    let ps = noted_views c.as_slice.result.now in
+    let is = element (IsVertex q) c.args.table.now c.args.number v c.requires.numbering.there (sym c.in-Some.ensures) in
+    let within =
+    state_in q v c.args.state s (c.requires.state v (sym c.in-Some.ensures)) c.in_ok-state.ensures in
+    let listed = asked_causes q ps v s in
+    let are : cause_views c.as_slice-2.result.now ≡ with_causes [] listed =
+    ap cause_views c.as_slice-2.ensures.keys ∙ c.in_ok-causes.ensures in
+    all_there q (cause_views c.as_slice-2.result.now)
+    (λ x i. (next_there q ps v s is within x ((same_ones listed x).0 (subst (λ l. Contains l x) are i))).0)
 
-pub next_axioms-requires-clause-state : goal.next_axioms-requires-clause-state
-next_axioms-requires-clause-state g c =
-    c.requires.state (vertex_ref_view c.in-Some.vertex)
-    (sym c.vertex.ensures ∙ ap (option_map vertex_ref_view) c.in-Some.is)
-
-pub returns-in-Some-clause-noted : goal.returns-in-Some-clause-noted
-returns-in-Some-clause-noted g c =
+pub returns-clause-given : goal.returns-clause-given
+returns-clause-given g c =
     let q = problem c.args.known.now in
-    let w = vertex_ref_view c.in-Some.vertex in
+    let v = vertex_ref_view c.in-Some.vertex in
+    let s = state_ref_view c.in_ok-state.state in
     let n = c.args.state in
-    let new = c.next_axioms.new.noted in
-    let seen : slice_get c.args.table.now c.args.number ≡ Some w =
-    sym c.vertex.ensures ∙ ap (option_map vertex_ref_view) c.in-Some.is in
-    on_ok_weaker c.next_axioms.result
-    (λ one v e. subst (λ (u : Vertex). IsNoted q new (u, state_at q u n)) (same_Some w v (sym seen ∙ e)) one)
-    c.next_axioms.ensures.noted
+    let ps = noted_views c.as_slice.result.now in
+    let old = c.args.noted.now in
+    let new = c.instances.new.table in
+    let tests = g.S.States.tests in
+    let is = element (IsVertex q) c.args.table.now c.args.number v c.requires.numbering.there (sym c.in-Some.ensures) in
+    let within = state_in q v n s (c.requires.state v (sym c.in-Some.ensures)) c.in_ok-state.ensures in
+    let listed = asked_causes q ps v s in
+    let beside =
+    subst (λ l. AreBeside q old (v, s) (noted_views l)) (sym c.as_slice.ensures.value) c.in_ok-those.ensures.beside in
+    let cs = cause_views c.as_slice-2.result.now in
+    let are : cs ≡ with_causes [] listed = ap cause_views c.as_slice-2.ensures.keys ∙ c.in_ok-causes.ensures in
+    IfOk-weaker c.instances.result (λ xs. AreGiven q new cs (given_views tests xs.items))
+    (λ xs. (w : Vertex) → slice_get c.args.table.now c.args.number ≡ Some w
+    → IsGivenNext q new (IsNoted q old) (w, state_at q w n) (given_views tests xs.items))
+    (λ xs given. at_number (λ u. IsGivenNext q new (IsNoted q old) (u, state_at q u n) (given_views tests xs.items))
+    c.args.table.now c.args.number v c.in-Some.ensures
+    (subst (λ (r : State). IsGivenNext q new (IsNoted q old) (v, r) (given_views tests xs.items)) c.in_ok-state.ensures
+    (record {
+      causes = cs;
+      there = λ x i. next_there q ps v s is within x ((same_ones listed x).0 (subst (λ l. Contains l x) are i));
+      all = λ x t here rest. subst (λ l. Contains l x) (sym are)
+          ((same_ones listed x).1 (next_listed q ps old v s x beside t here rest));
+      given = given;
+    })))
+    c.instances.ensures.given
 
-pub returns-in-Some-clause-given : goal.returns-in-Some-clause-given
-returns-in-Some-clause-given g c =
+pub returns-clause-noted : goal.returns-clause-noted
+returns-clause-noted g c =
     let q = problem c.args.known.now in
-    let w = vertex_ref_view c.in-Some.vertex in
-    let n = c.args.state in
-    let new = c.next_axioms.new.table in
-    let IsBefore = IsNoted q c.args.noted.now in
-    let seen : slice_get c.args.table.now c.args.number ≡ Some w =
-    sym c.vertex.ensures ∙ ap (option_map vertex_ref_view) c.in-Some.is in
-    IfOk-weaker c.next_axioms.result
-    (λ xs. IsGivenNext q new IsBefore (w, state_at q w n) (given_views g.S.States.tests xs.items))
-    (λ xs. (v : Vertex) → slice_get c.args.table.now c.args.number ≡ Some v
-    → IsGivenNext q new IsBefore (v, state_at q v n) (given_views g.S.States.tests xs.items))
-    (λ xs given v e. subst (λ (u : Vertex). IsGivenNext q new IsBefore (u, state_at q u n)
-    (given_views g.S.States.tests xs.items)) (same_Some w v (sym seen ∙ e)) given)
-    c.next_axioms.ensures.given
+    let v = vertex_ref_view c.in-Some.vertex in
+    on_ok_always c.instances.result (at_number (λ u. IsNoted q c.note.new.self (u, state_at q u c.args.state))
+    c.args.table.now c.args.number v c.in-Some.ensures
+    (subst (λ (r : State). IsNoted q c.note.new.self (v, r)) c.in_ok-state.ensures c.in_ok-those.ensures.noted))
 
-pub returns-in-None-clause-noted : goal.returns-in-None-clause-noted
-returns-in-None-clause-noted g c =
-    λ v e. absurd (none-some v (sym (sym c.vertex.ensures ∙ ap (option_map vertex_ref_view) c.in-None.is) ∙ e))
+pub returns-in_default-clause-noted : goal.returns-in_default-clause-noted
+returns-in_default-clause-noted g c = λ v e. absurd (none-some v (c.in_default.ensures ∙ e))
 
-pub returns-in-None-clause-given : goal.returns-in-None-clause-given
-returns-in-None-clause-given g c =
-    λ v e. absurd (none-some v (sym (sym c.vertex.ensures ∙ ap (option_map vertex_ref_view) c.in-None.is) ∙ e))
+pub returns-in_default-clause-given : goal.returns-in_default-clause-given
+returns-in_default-clause-given g c = λ v e. absurd (none-some v (c.in_default.ensures ∙ e))
