@@ -53,6 +53,7 @@ fn update<'a>(alloc: Global) -> Result<Command<'a>, AllocError> {
     let command = with_option(command, packages(alloc))?;
     let command = with_option(command, more_packages(alloc))?;
     let command = with_option(command, precise(alloc))?;
+    let command = with_option(command, workspace(alloc))?;
     changing(alloc, command)
 }
 
@@ -170,6 +171,12 @@ fn locked<'a>(alloc: Global) -> Arg<'a> {
 fn precise<'a>(alloc: Global) -> Arg<'a> {
     option(alloc, "precise").value_name("VERSION").help(
         "Locks the one package at this version, or tells why it can't be",
+    )
+}
+
+fn workspace<'a>(alloc: Global) -> Arg<'a> {
+    flag(alloc, "workspace").short('w').help(
+        "Where no package is named, locks none anew, as resolve does",
     )
 }
 

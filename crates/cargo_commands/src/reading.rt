@@ -140,11 +140,20 @@ fn update_in<'a>(alloc: Global, found: &ArgMatches<'a>) -> Result<CargoWords<'a>
     for id in ["package", "more-packages"] {
         packages.extend_from_slice(found.get_strs(id).unwrap_or(&[]))?;
     }
+    let (places, changing) = (places_of(found), changing_in(found));
+    let precise = found.get_str("precise");
+    if found.get_flag("workspace") && packages.is_empty() && precise.is_none() {
+        return Ok(CargoWords::Resolve {
+            places,
+            changing,
+            repair: false,
+        });
+    }
     Ok(CargoWords::Update {
-        places: places_of(found),
-        changing: changing_in(found),
+        places,
+        changing,
         packages,
-        precise: found.get_str("precise"),
+        precise,
     })
 }
 

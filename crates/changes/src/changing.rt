@@ -70,8 +70,7 @@ fn of_paths<'a>(
     new: &'a LockContent,
 ) -> Result<Vec<Line<'a>>, AllocError> {
     let mut lines = Vec::new(alloc);
-    let root = new.packages().iter().find(|one| has_no_source(one));
-    let Some(root) = root else {
+    let Some(root) = new.packages().iter().find(|one| has_no_source(one)) else {
         return Ok(lines);
     };
     let mut is_new = true;

@@ -128,7 +128,7 @@ fn pinned_told<F: Folder, P: Folder>(
     wish: Wish,
     said: &mut Said,
 ) -> Result<Outcome, Fault> {
-    let task = Task::new(alloc, project, &precise.rest, wish)?;
+    let task = Task::new(alloc, project, &precise.rest, wish, "")?;
     let answer = new_lock(alloc, pinned, task.from, task.prefer)?;
     match &*answer {
         Answer::Lock { bytes, kept, skips } => {

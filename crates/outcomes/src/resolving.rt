@@ -46,6 +46,8 @@ pub(crate) struct Task<'a> {
     pub(crate) from: &'a Bytes,
     pub(crate) prefer: Prefer,
     pub(crate) wish: Wish,
+    /// The packages that `update` was called with, a blank before each.
+    asked: &'a str,
 }
 
 impl<'a> Task<'a> {
@@ -55,6 +57,7 @@ impl<'a> Task<'a> {
         project: Project<'a>,
         from: &'a Bytes,
         wish: Wish,
+        asked: &'a str,
     ) -> Result<Task<'a>, AllocError> {
         let prefer = if wish.ignore_rust_version {
             Prefer::Newest
@@ -66,6 +69,7 @@ impl<'a> Task<'a> {
             from,
             prefer,
             wish,
+            asked,
         })
     }
 
@@ -102,10 +106,10 @@ pub fn resolve_told<F: Folder>(
         if let Some(repaired) = readable_rest(alloc, project.bytes)? {
             tell_repair(alloc, project, &repaired, said)?;
             let project = Project::of(project.paths, &repaired.bytes);
-            return resolved(alloc, folder, project, project.bytes, wish, said);
+            return resolved(alloc, folder, project, project.bytes, wish, "", said);
         }
     }
-    resolved(alloc, folder, project, project.bytes, wish, said)
+    resolved(alloc, folder, project, project.bytes, wish, "", said)
 }
 
 /// What `update` ends with: the packages that are asked for, or all where none is, lose their lock before.
@@ -118,7 +122,14 @@ pub fn update_told<F: Folder>(
     said: &mut Said,
 ) -> Result<Outcome, Fault> {
     match unlock(alloc, project.bytes, asked)? {
-        Unlocked::Rest(rest) => resolved(alloc, folder, project, &rest, wish, said),
+        Unlocked::Rest(rest) => {
+            let mut names = String::new(alloc);
+            for (words, _) in asked {
+                names.push_str(" ")?;
+                names.push_str(words)?;
+            }
+            resolved(alloc, folder, project, &rest, wish, names.as_str(), said)
+        }
         Unlocked::NoPackage(words, why) => no_way(alloc, project, words, why, said),
     }
 }
@@ -130,9 +141,10 @@ fn resolved<F: Folder>(
     project: Project<'_>,
     from: &Bytes,
     wish: Wish,
+    asked: &str,
     said: &mut Said,
 ) -> Result<Outcome, Fault> {
-    let task = Task::new(alloc, project, from, wish)?;
+    let task = Task::new(alloc, project, from, wish, asked)?;
     match new_lock(alloc, folder, from, task.prefer) {
         Ok(answer) => answered(alloc, folder, task, &answer, said),
         Err(Fault::ChecksumChanged(name, version)) => {
@@ -189,7 +201,7 @@ pub(crate) fn locked<F: Folder>(
     if !lock.kept && !task.wish.repair {
         let lost = lost_in(alloc, folder, task.from, lock.bytes)?;
         if !lost.is_empty() {
-            return Ok(tell_lost(alloc, &lost, said)?);
+            return Ok(tell_lost(alloc, task.asked, &lost, said)?);
         }
     }
     if task.wish.locked && !lock.kept && said.form() == Form::People {
@@ -261,9 +273,15 @@ fn tell_skipped(alloc: Global, skipped: usize, said: &mut Said) -> Result<(), Al
     }
 }
 
-/// Of which locked versions the index has none, and what can be done about that; each sentence begins with the name.
-fn tell_lost(alloc: Global, lost: &[String], said: &mut Said) -> Result<Outcome, AllocError> {
-    let mut names = String::new(alloc);
+/// Of which locked versions the index has none, and what can be done about that beside what was asked for; each
+/// sentence begins with the name.
+fn tell_lost(
+    alloc: Global,
+    asked: &str,
+    lost: &[String],
+    said: &mut Said,
+) -> Result<Outcome, AllocError> {
+    let mut names = String::from_str(alloc, asked)?;
     for sentence in lost.iter() {
         said.error("not-in-index", sentence.as_str())?;
         let (name, _) = sentence.as_str().split_once(' ').unwrap_or(("", ""));

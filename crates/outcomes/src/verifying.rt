@@ -11,7 +11,8 @@ use index_reader::Folder;
 use lockfile::LockContent;
 use reports::messages::Severity;
 use reports::{
-    Beside, Refused, loaded, refused_by_cargo, refused_kind, refused_lines, refused_sentence,
+    Beside, Refused, lacks_version, loaded, refused_by_cargo, refused_kind, refused_lines,
+    refused_sentence,
 };
 use resolver::Fault;
 use selection::Verdict;
@@ -57,7 +58,7 @@ fn judged<F: Folder>(
         tell_invalid(alloc, project.paths, verdict, said)?;
     }
     let lock = lockfile::read(alloc, lock_in(bytes))?;
-    let repair = if reports::lacks_version(index, &lock) {
+    let repair = if lacks_version(index, &lock) {
         " --repair"
     } else {
         ""
