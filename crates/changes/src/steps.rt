@@ -49,13 +49,15 @@ pub fn steps_of<'a>(
     Ok(steps)
 }
 
-/// The dependencies that are given by the places of a package and of one that it lists.
+/// The dependencies that are given by the places of a package and of one that it lists; of several of one pair all, or
+/// the first.
 pub fn dependencies_between<'a>(
     alloc: Global,
     manifest: &'a Manifest,
     catalogue: &'a Catalogue,
     content: &'a LockContent,
     pairs: &[(usize, usize)],
+    all: bool,
 ) -> Result<Vec<Step<'a>>, AllocError> {
     let mut steps = Vec::new(alloc);
     let packages = content.packages();
@@ -67,9 +69,33 @@ pub fn dependencies_between<'a>(
                 dependencies_of(catalogue, owner)
             };
             steps.push(step_to(owner, dependencies, target))?;
+            if all {
+                push_others(&mut steps, owner, dependencies, target)?;
+            }
         }
     }
     Ok(steps)
+}
+
+/// Puts the steps of all but the first of the dependencies that a package fits.
+fn push_others<'a>(
+    steps: &mut Vec<Step<'a>>,
+    owner: &'a Package,
+    dependencies: &'a [Dependency],
+    target: &'a Package,
+) -> Result<(), AllocError> {
+    for dependency in dependencies
+        .iter()
+        .filter(|one| may_mean(one, target))
+        .skip(1)
+    {
+        steps.push(Step {
+            owner,
+            dependency: Some(dependency),
+            target,
+        })?;
+    }
+    Ok(())
 }
 
 fn step_to<'a>(

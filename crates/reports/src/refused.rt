@@ -194,7 +194,7 @@ fn push_needs(
         catalogue,
         lock,
     } = beside;
-    let steps = dependencies_between(alloc, manifest, catalogue, lock, &pairs)?;
+    let steps = dependencies_between(alloc, manifest, catalogue, lock, &pairs, false)?;
     for (place, step) in steps.iter().enumerate() {
         text.push_str(joint(place, steps.len()))?;
         push_need(text, *step)?;

@@ -54,7 +54,14 @@ impl Way<'_> {
         let Wanted { name, .. } = self.wanted;
         let version = self.wanted.version();
         let pairs = dependencies_to(alloc, self.manifest, self.lock, name, version)?;
-        dependencies_between(alloc, self.manifest, &self.catalogue, self.lock, &pairs)
+        dependencies_between(
+            alloc,
+            self.manifest,
+            &self.catalogue,
+            self.lock,
+            &pairs,
+            true,
+        )
     }
 }
 
