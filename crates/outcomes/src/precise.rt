@@ -132,7 +132,7 @@ fn pinned_told<F: Folder, P: Folder>(
     let answer = new_lock(alloc, pinned, task.from, task.prefer)?;
     match &*answer {
         Answer::Lock { bytes, kept, skips } => {
-            let lock = task.new_lock_of(bytes, *kept, skips.len());
+            let lock = task.new_lock_of(alloc, bytes, *kept, skips.len())?;
             taken(alloc, folder, task, precise, lock, said)
         }
         Answer::Unsolvable {

@@ -17,6 +17,7 @@ use crate::why::{Question, no_way};
 use catalogue::Prefer;
 use derivations::Derivation;
 use index_reader::Folder;
+use lockfile::LockFault;
 use reports::messages::Severity;
 use resolver::{Answer, Fault};
 use std::alloc::{AllocError, Global};
@@ -78,19 +79,32 @@ impl<'a> Task<'a> {
         Project::of(self.project.paths, self.from)
     }
 
-    /// A lock that `resolve` gives, beside the old one.
+    /// A lock that `resolve` gives, beside the old one, which is kept where it says the same, however it is spelt.
     pub(crate) fn new_lock_of<'b>(
         &self,
+        alloc: Global,
         bytes: &'b [u8],
         kept: bool,
         skipped: usize,
-    ) -> NewLock<'b> {
-        NewLock {
+    ) -> Result<NewLock<'b>, AllocError> {
+        Ok(NewLock {
             bytes,
-            kept: kept || bytes == lock_in(self.project.bytes),
+            kept: kept || says_this(alloc, lock_in(self.project.bytes), bytes)?,
             prefer: self.prefer,
             skipped,
-        }
+        })
+    }
+}
+
+/// Whether an old lock says what a new one does, which is spelt as locks are written.
+fn says_this(alloc: Global, old: &[u8], new: &[u8]) -> Result<bool, AllocError> {
+    if old == new {
+        return Ok(true);
+    }
+    match lockfile::read(alloc, old) {
+        Ok(content) => Ok(lockfile::write(alloc, &content)?.as_slice() == new),
+        Err(LockFault::OutOfMemory) => Err(AllocError),
+        Err(_) => Ok(false),
     }
 }
 
@@ -164,7 +178,7 @@ fn answered<F: Folder>(
 ) -> Result<Outcome, Fault> {
     match answer {
         Answer::Lock { bytes, kept, skips } => {
-            let lock = task.new_lock_of(bytes, *kept, skips.len());
+            let lock = task.new_lock_of(alloc, bytes, *kept, skips.len())?;
             locked(alloc, folder, task, lock, said)
         }
         Answer::Unsolvable {
