@@ -129,8 +129,8 @@ fn index<'a>(alloc: Global) -> Arg<'a> {
 }
 
 fn source<'a>(alloc: Global) -> Arg<'a> {
-    option(alloc, "source").value_name("URL").help(
-        "The source of the index's packages in a lock [default: crates.io]",
+    option(alloc, "source").value_name("SOURCE").help(
+        "The source of the index's packages in a lock, as `sparse+URL` [default: crates.io]",
     )
 }
 

@@ -62,7 +62,10 @@ impl fmt::Display for Failure<'_> {
             ),
             Failure::NoPackage(text) => write!(f, "`{text}` is no NAME or NAME@VERSION"),
             Failure::NoVersion(text) => write!(f, "`{text}` is no full version, such as 1.1.0"),
-            Failure::NoSource(text) => write!(f, "`{text}` is no source of packages"),
+            Failure::NoSource(text) => write!(
+                f,
+                "`{text}` is no source of packages: locks have `registry+URL` or `sparse+URL`"
+            ),
             Failure::NotOne => f.write_str("--precise needs one package"),
             Failure::Member(path) => write!(
                 f,

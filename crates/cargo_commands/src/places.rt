@@ -70,7 +70,7 @@ pub(crate) fn paths_of<'a, R: Files + AllocGlobal + Clone + Drop>(
         return Err(Failure::NoIndex);
     };
     let source = places.source.unwrap_or(CRATES_IO);
-    if !is_source(source) {
+    if !is_source(source) || !(source.starts_with("registry+") || source.starts_with("sparse+")) {
         return Err(Failure::NoSource(source));
     }
     let manifest = match places.manifest {
