@@ -76,35 +76,45 @@ fn ended<R: Files + Clock + Eprint + AllocGlobal + Clone + Drop>(
     Ok(outcome)
 }
 
-/// What is to be done, once it is known whether the manifest is a member of a workspace, whose lock Cargo takes:
-/// that is told, and where the lock was to be written refused.
+/// What is to be done, once it is known whether the manifest is a member of a workspace.
 fn checked<'a, R: Files + AllocGlobal>(
     rt: &R,
     project: Project<'_>,
     wish: Wish,
     said: &mut Said,
 ) -> Result<Wish, Failure<'a>> {
+    Ok(Wish {
+        is_member: is_member(rt, project, wish.write, said)?,
+        ..wish
+    })
+}
+
+/// Whether the manifest is a member of a workspace, whose lock Cargo takes: that is told, and where the lock is to be
+/// written refused.
+fn is_member<'a, R: Files + AllocGlobal>(
+    rt: &R,
+    project: Project<'_>,
+    writes: bool,
+    said: &mut Said,
+) -> Result<bool, Failure<'a>> {
     let alloc = rt.alloc();
     let manifest = project.paths.manifest;
     if has_workspace(alloc, &project.bytes.manifest, "")? {
-        return Ok(wish);
+        return Ok(false);
     }
     for above in manifests_above(rt, manifest)? {
         if has_workspace(alloc, &above.bytes, above.below.as_str())? {
-            if wish.write {
+            if writes {
                 return Err(Failure::Member(above.path));
             }
             let below = above.below.as_str();
             let found = standing_of(alloc, &above.bytes, below)?;
             let path = above.path.as_str();
             warn_of_workspace(alloc, manifest, path, below, found, said)?;
-            return Ok(Wish {
-                is_member: true,
-                ..wish
-            });
+            return Ok(true);
         }
     }
-    Ok(wish)
+    Ok(false)
 }
 
 /// A folder in which no file lies where an index has it.
@@ -223,7 +233,7 @@ pub(crate) fn update_at<'a, R: Files + Clock + Eprint + AllocGlobal + Clone + Dr
     let bytes = if asked.is_empty() {
         read_files(rt, paths, false)?
     } else {
-        with_lock(rt, paths)?
+        with_lock(rt, paths, said)?
     };
     let project = Project::of(paths, &bytes);
     let wish = checked(rt, project, wish, said)?;
@@ -259,7 +269,7 @@ pub(crate) fn precise_at<'a, R: Files + Clock + Eprint + AllocGlobal + Clone + D
         return Err(Failure::NoPackage(String::from_str(alloc, words)?));
     };
     let version = version_of(alloc, version)?;
-    let bytes = with_lock(rt, paths)?;
+    let bytes = with_lock(rt, paths, said)?;
     let project = Project::of(paths, &bytes);
     let wish = checked(rt, project, wish, said)?;
     let mut index = index_at(rt, paths, watch)?;
@@ -290,8 +300,9 @@ pub(crate) fn verify_at<'a, R: Files + Clock + Eprint + AllocGlobal + Clone + Dr
     watch: Watch,
     said: &mut Said,
 ) -> Result<Outcome, Failure<'a>> {
-    let bytes = with_lock(rt, paths)?;
+    let bytes = with_lock(rt, paths, said)?;
     let project = Project::of(paths, &bytes);
+    is_member(rt, project, false, said)?;
     let mut index = index_at(rt, paths, watch)?;
     let told = verify_told(rt.alloc(), &mut *index, project, said);
     Ok(ended(rt, project, told, &index, watch, said)?)
@@ -309,8 +320,9 @@ pub(crate) fn why_at<'a, R: Files + Clock + Eprint + AllocGlobal + Clone + Drop>
         let text = String::from_str(rt.alloc(), package)?;
         return Err(Failure::NoPackage(text));
     };
-    let bytes = with_lock(rt, paths)?;
+    let bytes = with_lock(rt, paths, said)?;
     let project = Project::of(paths, &bytes);
+    is_member(rt, project, false, said)?;
     let mut index = index_at(rt, paths, watch)?;
     let told = why_told(
         rt.alloc(),
@@ -324,15 +336,18 @@ pub(crate) fn why_at<'a, R: Files + Clock + Eprint + AllocGlobal + Clone + Drop>
     Ok(ended(rt, project, told, &index, watch, said)?)
 }
 
-/// What the files say, with the lock, which has to be there.
+/// What the files say, with the lock, which has to be there: else a workspace that has it is told.
 fn with_lock<'a, R: Files + AllocGlobal>(
     rt: &R,
     paths: &'a Paths<'a>,
+    said: &mut Said,
 ) -> Result<Bytes, Failure<'a>> {
     match read_files(rt, paths, true) {
         Ok(bytes) => Ok(bytes),
         Err(ReadFault::CannotRead(path, error)) => {
             if path == paths.lock.as_str() && error.kind() == ErrorKind::NotFound {
+                let bytes = read_files(rt, paths, false)?;
+                is_member(rt, Project::of(paths, &bytes), false, said)?;
                 Err(Failure::NoLock(path))
             } else {
                 Err(Failure::Unread(ReadFault::CannotRead(path, error)))
