@@ -213,7 +213,7 @@ pub(crate) fn locked<F: Folder>(
     said: &mut Said,
 ) -> Result<Outcome, Fault> {
     if !lock.kept && !task.wish.repair {
-        let lost = lost_in(alloc, folder, task.from, lock.bytes)?;
+        let lost = lost_in(alloc, folder, task.project.bytes, task.from, lock.bytes)?;
         if !lost.is_empty() {
             return Ok(tell_lost(alloc, task.asked, &lost, said)?);
         }

@@ -1,7 +1,7 @@
 //! Locked versions that an index can't give.
 
 use catalogue::Catalogue;
-use changes::{changes_between, named};
+use changes::{Changes, changes_between, named};
 use classes::Class;
 use features::PackageName;
 use flaws::{MissingTold, why_lost};
@@ -10,25 +10,90 @@ use lockfile::{LockContent, Package};
 use semver::Version;
 use std::alloc::{AllocError, Global};
 
-/// A sentence for each package of a lock whose version the index can't give, and that has another compatible version in
-/// a new lock; none where the folder fails.
+/// A sentence for each package of an old lock whose version the index can't give, and that has another compatible
+/// version in a new lock, or is gone since what led to it has another one; none where the folder fails. Only those are
+/// told that `rest` has too, what is still locked of the old lock.
 pub fn lost_between<F: Folder>(
     alloc: Global,
     folder: &mut F,
     old: &LockContent,
+    rest: &LockContent,
     new: &LockContent,
 ) -> Result<Vec<String>, AllocError> {
     let changes = changes_between(alloc, Some(old), new)?;
+    let locked = changes_between(alloc, Some(rest), new)?;
+    let led_to = led_to(alloc, old, &changes)?;
     let mut sentences = Vec::new(alloc);
-    for package in changes.gone.iter() {
-        if is_replaced(package, &changes.came) {
-            let Package { name, version, .. } = package;
-            if let Some(why) = lost_version(alloc, folder, name, version)? {
-                sentences.push(format!(in alloc; "{name} {version} is locked, but {why}")?)?;
-            }
+    for (package, is_led_to) in old.packages().iter().zip(led_to.iter()) {
+        let is_behind = *is_led_to || is_replaced(package, &changes.came);
+        if !is_behind || !is_among(package, &locked.gone) {
+            continue;
+        }
+        let Package { name, version, .. } = package;
+        if let Some(why) = lost_version(alloc, folder, name, version)? {
+            sentences.push(format!(in alloc; "{name} {version} is locked, but {why}")?)?;
         }
     }
     Ok(sentences)
+}
+
+/// Whether each package of an old lock is gone, and on the list of one that has another version in the new lock, or of
+/// one that is itself such a package.
+fn led_to(
+    alloc: Global,
+    old: &LockContent,
+    changes: &Changes<'_>,
+) -> Result<Vec<bool>, AllocError> {
+    let packages = old.packages();
+    let mut found = vec![in alloc; false; packages.len()]?;
+    let mut places = replaced_places(alloc, packages, changes)?;
+    for at in 0..places.len() + packages.len() {
+        let Some(package) = places.get(at).and_then(|place| packages.get(*place)) else {
+            break;
+        };
+        follow(packages, package, changes, &mut found, &mut places)?;
+    }
+    Ok(found)
+}
+
+/// The places of the packages of an old lock that have another version in the new one.
+fn replaced_places(
+    alloc: Global,
+    packages: &[Package],
+    changes: &Changes<'_>,
+) -> Result<Vec<usize>, AllocError> {
+    let mut places = Vec::new(alloc);
+    for (place, package) in packages.iter().enumerate() {
+        if is_among(package, &changes.gone) && !named(&changes.came, &package.name).is_empty() {
+            places.push(place)?;
+        }
+    }
+    Ok(places)
+}
+
+/// Finds what is gone of a package's list, and takes down the places of what wasn't found before.
+fn follow(
+    packages: &[Package],
+    package: &Package,
+    changes: &Changes<'_>,
+    found: &mut [bool],
+    places: &mut Vec<usize>,
+) -> Result<(), AllocError> {
+    for place in package.list.iter() {
+        if let (Some(next), Some(is_found)) = (packages.get(*place), found.get_mut(*place)) {
+            if !*is_found && is_among(next, &changes.gone) {
+                *is_found = true;
+                places.push(*place)?;
+            }
+        }
+    }
+    Ok(())
+}
+
+/// Whether a package is among some in package order.
+fn is_among(package: &Package, some: &[&Package]) -> bool {
+    named(some, &package.name).iter().any(|other| other.version == package.version
+        && other.source() == package.source())
 }
 
 /// `this index has no such version; the newest is 0.4.20`, where the index can't give a version of a package; nothing
@@ -49,16 +114,12 @@ pub fn lost_version<F: Folder>(
     }
 }
 
-/// Whether an index lacks a locked version and has a compatible one, which nothing takes unasked.
+/// Whether an index lacks a locked version, so that nothing is changed unasked.
 pub fn lacks_version(catalogue: &Catalogue, lock: &LockContent) -> bool {
-    lock.packages().iter().any(|package| package.source().is_some() && is_lost(catalogue, package))
-}
-
-fn is_lost(catalogue: &Catalogue, package: &Package) -> bool {
-    let Package { name, version, .. } = package;
-    let class = Class::of(version);
-    let mut versions = catalogue.versions(name).iter();
-    catalogue.candidate(name, version).is_none() && versions.any(|other| Class::of(other) == class)
+    lock.packages().iter().any(|package| package.source().is_some()
+        && catalogue
+            .candidate(&package.name, &package.version)
+            .is_none())
 }
 
 /// Whether one of some packages is another compatible version of a package, of the same source.

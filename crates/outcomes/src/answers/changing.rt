@@ -7,7 +7,7 @@ use catalogue::{Catalogue, Prefer};
 use derivations::Derivation;
 use index_reader::Folder;
 use manifest_faults::dependency_lines;
-use reports::{Inputs, LackTold, lacks_told};
+use reports::{Inputs, LackTold, lacks_told, lost_between};
 use resolver::Fault;
 use std::alloc::{AllocError, Global};
 
@@ -122,19 +122,20 @@ fn push_place(
     }
 }
 
-/// A sentence for each package of the old lock whose version the index can't give, and that has another compatible one
-/// in a new lock.
+/// A sentence for each package that is still locked, by what is left of the old files, and that a new lock lacks since
+/// the index can't give its version.
 pub(crate) fn lost_in<F: Folder>(
     alloc: Global,
     folder: &mut F,
-    bytes: &Bytes,
+    old: &Bytes,
+    rest: &Bytes,
     new: &[u8],
 ) -> Result<Vec<String>, Fault> {
-    let inputs = inputs_in(alloc, bytes)?;
+    let (old, rest) = (inputs_in(alloc, old)?, inputs_in(alloc, rest)?);
     let new = lockfile::read(alloc, new)?;
-    match &inputs.lock {
-        Some(old) => Ok(reports::lost_between(alloc, folder, old, &new)?),
-        None => Ok(Vec::new(alloc)),
+    match (&old.lock, &rest.lock) {
+        (Some(old), Some(rest)) => Ok(lost_between(alloc, folder, old, rest, &new)?),
+        _ => Ok(Vec::new(alloc)),
     }
 }
 
