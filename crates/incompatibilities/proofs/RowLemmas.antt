@@ -1,5 +1,5 @@
 -- Rows of an index after a write or a push.
-use Rattle.std.proofs.Common.{◌≡◌, ◌≢◌, ℕ, zero, suc, ◌+◌, ◌<◌, ◌≤◌, Bool, true, false, cond, eqb, List, [], ◌∷◌}
+use Rattle.std.proofs.Common.{◌≡◌, ◌≢◌, ℕ, zero, suc, ◌+◌, ◌<◌, ◌≤◌, true, false, cond, eqb, List, [], ◌∷◌}
 use Rattle.std.proofs.Common.{◌++◌, length}
 use Rattle.std.proofs.Common.{get_or, set, map, drop, Vec, vec_len, vec_capacity, refl, ap, sym, ◌∙◌, subst, arith}
 use Rattle.std.proofs.Common.{eq-eqb, get_or-set_other, get_or-set_same, ◌⊎◌, inl, inr}
@@ -173,18 +173,6 @@ pub first_room : {S E : Type 0} (item : Term S → E) (old now : Rows E) (all le
 first_room {S} {E} item old now all left rest t split r =
     r.room t.vertex (ap (λ (l : List (Term S)). stands_in t.vertex (vertices l)) split
     ∙ or_left (eqb t.vertex t.vertex) (stands_in t.vertex (vertices rest)) (eq-eqb t.vertex t.vertex refl))
-
--- what rows get of terms, with each item put through a function
-listed_step : {E F : Type 0} (b : Bool) (f : E → F) (x : E) (ys : List F) (xs : List E) → ys ≡ map f xs
-    → cond b (f x ∷ ys) ys ≡ map f (cond b (x ∷ xs) xs)
-listed_step {E} {F} true f x ys xs e = ap (λ (l : List F). f x ∷ l) e
-listed_step false f x ys xs e = e
-
-pub listed_through : {S E F : Type 0} (f : E → F) (item : Term S → E) (v : ℕ) (ts : List (Term S))
-    → listed_in (λ (t : Term S). f (item t)) v ts ≡ map f (listed_in item v ts)
-listed_through f item v [] = refl
-listed_through {S} f item v (t ∷ ts) = listed_step (eqb t.vertex v) f (item t)
-    (listed_in (λ (u : Term S). f (item u)) v ts) (listed_in item v ts) (listed_through f item v ts)
 
 -- the vertices of what is left of a list of terms
 pub vertices_left : {S : Type 0} (ts : List (Term S)) (i : ℕ) (t : Term S) → i < length ts → t ≡ get_or ts i t

@@ -1,14 +1,12 @@
--- Reading the index: each entry with a term at a vertex is there, beside its states and its extent.
+-- Reading the index: each entry with a term at a vertex is there, beside its states.
 use Rattle.std.proofs.Common.{◌≡◌, ℕ, zero, suc, ◌+◌, ◌<◌, Bool, true, false, cond}
-use Rattle.std.proofs.Common.{List, [], ◌∷◌, length, get_or, map, Some, refl, sym, ap}
+use Rattle.std.proofs.Common.{List, [], ◌∷◌, length, get_or, Some, refl, sym, ap}
 use Rattle.std.proofs.Common.{◌∙◌, subst, arith}
-use Rattle.std.proofs.lemmas.List.{get_or-map}
 use Rattle.std.specs.Option.{is_some}
 use Rattle.version_sets.specs.Sets.{Members}
 use Rattle.incompatibilities.specs.inner.Indexed.{HaveStates}
-use Rattle.incompatibilities.specs.Stores.{EntryView, entry, extent_of, extents_at, ids_at, ids_from}
-use Rattle.incompatibilities.specs.Stores.{terms_of, touches}
-use Rattle.incompatibilities.specs.declared.rows.Extent.{Extent}
+use Rattle.incompatibilities.specs.Stores.{EntryView, entry, ids_at, ids_from, terms_of}
+use Rattle.incompatibilities.specs.Stores.{touches}
 use Rattle.propagation.proofs.Fronts.{ids_below}
 
 -- the index: each entry with a term at the vertex is there
@@ -65,14 +63,3 @@ states_read {S} tests es v (i ∷ ids) (t ∷ ss) zero id s h lt here is =
     ap (λ k. terms_of es k v) here ∙ h.0 ∙ ap (λ (x : S). Some (tests x)) (sym is)
 states_read tests es v (i ∷ ids) (t ∷ ss) (suc j) id s h lt here is =
     states_read tests es v ids ss j id s h.1 (omega (arith, lt)) here is
-
--- the extent that stands beside a number, and that a term doesn't hold where it has too few states or lacks one that is
--- left
-pub extent_read : (es : List EntryView) (v : ℕ) (on : List ℕ) (extents : List Extent) (j : ℕ) (d : Extent)
-    → on ≡ ids_at v es → extents ≡ extents_at v es → j < length on
-    → get_or extents j d ≡ extent_of (terms_of es (get_or on j 0) v)
-extent_read es v on extents j d is beside lt =
-    ap (λ (ns : List Extent). get_or ns j d) (beside ∙ sym (ap (map number) is)) ∙ get_or-map number on j 0 d lt
-  where
-    number : ℕ → Extent
-    number i = extent_of (terms_of es i v)

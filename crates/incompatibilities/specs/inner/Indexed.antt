@@ -3,10 +3,8 @@ use Rattle.std.specs.Prelude.{◌≡◌, ℕ, List, [], ◌∷◌, Some, map}
 use Rattle.version_sets.specs.Sets.{Members}
 use Rattle.terms.specs.declared.term.Term.{Term}
 use Rattle.incompatibilities.specs.inner.Rows.{Rows, row_at}
-use Rattle.incompatibilities.specs.Stores.{AreFounded, AreProper, EntryView, entries_view, extent, ids_at}
-use Rattle.incompatibilities.specs.Stores.{terms_of}
+use Rattle.incompatibilities.specs.Stores.{AreFounded, AreProper, EntryView, entries_view, ids_at, terms_of}
 use Rattle.incompatibilities.specs.declared.origin.Origin.{Origin}
-use Rattle.incompatibilities.specs.declared.rows.Extent.{Extent}
 use Rattle.incompatibilities.specs.declared.store.Entry.{Entry}
 
 abbrev pub entries_in : {S : Type 0} → List (Entry S) → List (List (Term S) × Origin)
@@ -19,12 +17,11 @@ HaveStates tests es v [] (s ∷ ss) = ⊥
 HaveStates tests es v (id ∷ ids) [] = ⊥
 HaveStates tests es v (id ∷ ids) (s ∷ ss) = (terms_of es id v ≡ Some (tests s)) × HaveStates tests es v ids ss
 
--- each row lists the entries with a term at its vertex, and beside them the states of that term and their extent; each
--- entry that is learned comes out of its chain, and each entry is an incompatibility
+-- each row lists the entries with a term at its vertex, and beside them the states of that term; each entry that is
+-- learned comes out of its chain, and each entry is an incompatibility
 pub record IsIndexed {S : Type 0} (tests : S → Members) (es : List (List (Term S) × Origin))
-    (ids : Rows ℕ) (sets : Rows S) (extents : Rows Extent) : Type 0 where
+    (ids : Rows ℕ) (sets : Rows S) : Type 0 where
   pub listed : (v : ℕ) → row_at ids v ≡ ids_at v (entries_view tests es)
   pub states : (v : ℕ) → HaveStates tests (entries_view tests es) v (row_at ids v) (row_at sets v)
-  pub extended : (v : ℕ) → row_at extents v ≡ map (λ s. extent (tests s)) (row_at sets v)
   pub founded : AreFounded (entries_view tests es)
   pub proper : AreProper (entries_view tests es)

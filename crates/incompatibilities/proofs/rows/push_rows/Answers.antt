@@ -1,7 +1,5 @@
-use Rattle.std.proofs.Common.{rules, ◌≡◌, ◌∙◌, ◌+◌, ◌++◌, [], ◌∷◌, length, ap, sym, subst, arith, vec_len}
-use Rattle.incompatibilities.specs.Stores.{extent}
+use Rattle.std.proofs.Common.{rules, ◌≡◌, ◌∙◌, ◌+◌, [], ◌∷◌, length, ap, sym, arith, vec_len}
 use Rattle.std.specs.Vec.Iter.{into_iter_items, into_iter_len}
-use Rattle.incompatibilities.specs.inner.Rows.{row_at}
 use Rattle.incompatibilities.proofs.RowLemmas.{entering_first, entering_last, entering_more, first_room, none_left}
 use Rattle.incompatibilities.proofs.rows.push_rows.Goals as goal
 
@@ -17,9 +15,6 @@ terms-init g c =
           c.requires.apart;
       sets = entering_first (λ t. t.states) c.args.sets.now.items c.args.terms.items _ gives.0 c.requires.sets
           c.requires.apart;
-      extents =
-          entering_first (λ t. extent (g.S.States.tests t.states)) c.args.extents.now.items c.args.terms.items _ gives.0
-          c.requires.extents c.requires.apart;
     }
 
 pub push_at-requires : goal.push_at-requires
@@ -32,15 +27,6 @@ push_at-requires g c =
 
 pub push_at-requires-in-terms : goal.push_at-requires-in-terms
 push_at-requires-in-terms g c =
-    let here : into_iter_items c.terms.term-iterator ≡ c.in-Some.term ∷ into_iter_items c.next.new.self =
-    c.in-Some.ensures.steps.0 in
-    first_room
-    (λ t. extent (g.S.States.tests t.states)) c.args.extents.now.items c.terms.extents.items c.args.terms.items
-    (into_iter_items c.terms.term-iterator)
-    (into_iter_items c.next.new.self) c.in-Some.term here c.terms.invariant.extents
-
-pub push_at-requires-in-terms-2 : goal.push_at-requires-in-terms-2
-push_at-requires-in-terms-2 g c =
     let here : into_iter_items c.terms.term-iterator ≡ c.in-Some.term ∷ into_iter_items c.next.new.self =
     c.in-Some.ensures.steps.0 in
     first_room (λ t. t.states) c.args.sets.now.items c.terms.sets.items c.args.terms.items
@@ -63,18 +49,10 @@ terms-preserved g c =
           c.args.terms.items (into_iter_items c.terms.term-iterator) (into_iter_items c.next.new.self) c.in-Some.term
           here c.push_at.ensures.here c.push_at.ensures.others c.push_at.ensures.room c.terms.invariant.ids;
       sets =
-          entering_more (λ t. t.states) c.args.sets.now.items c.terms.sets.items c.push_at-in-terms-2.new.rows.items
+          entering_more (λ t. t.states) c.args.sets.now.items c.terms.sets.items c.push_at-in-terms.new.rows.items
           c.args.terms.items (into_iter_items c.terms.term-iterator) (into_iter_items c.next.new.self) c.in-Some.term
-          here c.push_at-in-terms-2.ensures.here c.push_at-in-terms-2.ensures.others c.push_at-in-terms-2.ensures.room
+          here c.push_at-in-terms.ensures.here c.push_at-in-terms.ensures.others c.push_at-in-terms.ensures.room
           c.terms.invariant.sets;
-      extents =
-          entering_more (λ t. extent (g.S.States.tests t.states)) c.args.extents.now.items c.terms.extents.items
-          c.push_at-in-terms.new.rows.items c.args.terms.items (into_iter_items c.terms.term-iterator)
-          (into_iter_items c.next.new.self) c.in-Some.term here
-          (subst (λ n. row_at c.push_at-in-terms.new.rows.items c.in-Some.term.vertex
-          ≡ row_at c.terms.extents.items c.in-Some.term.vertex ++ n
-          ∷ []) c.extent_of.ensures c.push_at-in-terms.ensures.here)
-          c.push_at-in-terms.ensures.others c.push_at-in-terms.ensures.room c.terms.invariant.extents;
     }
 
 pub returns-clause-ids : goal.returns-clause-ids
@@ -90,11 +68,3 @@ returns-clause-sets g c =
     (into_iter_items c.terms.term-iterator) c.terms.invariant.counted c.in-None.ensures.steps.0 in
     entering_last (λ t. t.states) c.args.sets.now.items c.terms.sets.items c.args.terms.items
     (into_iter_items c.terms.term-iterator) none c.terms.invariant.sets
-
-pub returns-clause-extents : goal.returns-clause-extents
-returns-clause-extents g c =
-    let none : into_iter_items c.terms.term-iterator ≡ [] = none_left (into_iter_len c.terms.term-iterator)
-    (into_iter_items c.terms.term-iterator) c.terms.invariant.counted c.in-None.ensures.steps.0 in
-    entering_last
-    (λ t. extent (g.S.States.tests t.states)) c.args.extents.now.items c.terms.extents.items c.args.terms.items
-    (into_iter_items c.terms.term-iterator) none c.terms.invariant.extents

@@ -1,5 +1,4 @@
 use Rattle.std.proofs.Common.{◌≡◌, length}
-use Rattle.incompatibilities.specs.Stores.{extent}
 use Rattle.std.specs.Vec.Iter.{into_iter_items, into_iter_len}
 use Rattle.incompatibilities.proofs.RowLemmas.{IsEntering}
 use Rattle.incompatibilities.proofs.rows.push_rows.Given as goal
@@ -12,7 +11,5 @@ invariant-terms g l =
       counted : into_iter_len l.term-iterator ≡ length (into_iter_items l.term-iterator);
       ids : IsEntering (λ t. l.id) l.fn.ids.items l.ids.items l.fn.terms.items (into_iter_items l.term-iterator);
       sets : IsEntering (λ t. t.states) l.fn.sets.items l.sets.items l.fn.terms.items
-          (into_iter_items l.term-iterator);
-      extents : IsEntering (λ t. extent (g.S.States.tests t.states)) l.fn.extents.items l.extents.items l.fn.terms.items
           (into_iter_items l.term-iterator);
     }

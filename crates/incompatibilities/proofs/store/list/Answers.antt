@@ -1,5 +1,4 @@
 use Rattle.std.proofs.Common.{◌≡◌, ◌∙◌, ◌++◌, true, ap, subst}
-use Rattle.incompatibilities.specs.Stores.{extent}
 use Rattle.terms.specs.Terms.{terms_view}
 use Rattle.incompatibilities.specs.inner.Rows.{listed_in, stands_in}
 use Rattle.incompatibilities.proofs.RowLemmas.{same_vertices}
@@ -18,12 +17,6 @@ push_rows-requires-clause-sets g c v s =
     c.in_ok-copies.ensures in
     c.in_ok-reserve_rows-2.ensures.room v (subst (λ vs. stands_in v vs ≡ true) same s)
 
-pub push_rows-requires-clause-extents : goal.push_rows-requires-clause-extents
-push_rows-requires-clause-extents g c v s =
-    let same = same_vertices g.S.States.tests c.in_ok-copies.copies.items c.terms-terms.result.now
-    c.in_ok-copies.ensures in
-    c.in_ok-reserve_rows-3.ensures.room v (subst (λ vs. stands_in v vs ≡ true) same s)
-
 pub push_rows-requires-clause-apart : goal.push_rows-requires-clause-apart
 push_rows-requires-clause-apart g c =
     let tests = g.S.States.tests in
@@ -38,9 +31,6 @@ returns-clause-listed g c =
       c.in_ok-copies.ensures ∙ ap (terms_view tests) c.terms-terms.ensures.terms,
       (λ v. c.push_rows.ensures.ids v
           ∙ ap (λ l. l ++ listed_in (λ t. c.args.id) v copies) (c.in_ok-reserve_rows.ensures.grown.same v)),
-      (λ v. c.push_rows.ensures.sets v
-          ∙ ap (λ l. l ++ listed_in (λ t. t.states) v copies) (c.in_ok-reserve_rows-2.ensures.grown.same v)),
-      λ v. c.push_rows.ensures.extents v
-          ∙ ap (λ l. l ++ listed_in (λ t. extent (tests t.states)) v copies)
-          (c.in_ok-reserve_rows-3.ensures.grown.same v),
+      λ v. c.push_rows.ensures.sets v
+          ∙ ap (λ l. l ++ listed_in (λ t. t.states) v copies) (c.in_ok-reserve_rows-2.ensures.grown.same v),
     )

@@ -11,7 +11,6 @@ returns-clause-value g c =
 
 pub returns-clause-follows : goal.returns-clause-follows
 returns-clause-follows g c =
-    let indexed =
-    subst (λ vs. IsIndexed g.S.States.tests vs c.self.inside.ids.items c.self.inside.sets.items
-    c.self.inside.extents.items) c.self.view_is c.self.invariant in
+    let indexed = subst (λ vs. IsIndexed g.S.States.tests vs c.self.inside.ids.items c.self.inside.sets.items)
+    c.self.view_is c.self.invariant in
     each_follows (entries_view g.S.States.tests c.args.self.now) c.args.id indexed.founded c.requires

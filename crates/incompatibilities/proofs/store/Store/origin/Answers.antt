@@ -11,9 +11,8 @@ returns-clause-value g c =
 
 pub returns-clause-fits : goal.returns-clause-fits
 returns-clause-fits g c =
-    let indexed =
-    subst (λ vs. IsIndexed g.S.States.tests vs c.self.inside.ids.items c.self.inside.sets.items
-    c.self.inside.extents.items) c.self.view_is c.self.invariant in
+    let indexed = subst (λ vs. IsIndexed g.S.States.tests vs c.self.inside.ids.items c.self.inside.sets.items)
+    c.self.view_is c.self.invariant in
     let es = entries_view g.S.States.tests c.args.self.now in
     subst (OriginFits es c.args.id (entry es c.args.id).terms)
     (ap (λ (e : EntryView). e.origin) (read_at g.S.States.tests c.self.inside.entries.items c.args.self.now
