@@ -70,12 +70,12 @@ found [] n d lt = absurd (omega (arith, lt))
 found (x ∷ xs) zero d lt = in_first x xs
 found (x ∷ xs) (suc n) d lt = in_rest x (unwrap_or (slice_get xs n) d) xs (found xs n d (omega (arith, lt)))
 
--- the state of a number is one of the vertex
 -- what holds of the vertex that has a number
 pub at_number : (P : Vertex → Type 0) (vs : Numbering) (n : ℕ) (v : Vertex) → Some v ≡ slice_get vs n → P v
     → (w : Vertex) → slice_get vs n ≡ Some w → P w
 at_number P vs n v at is w e = subst P (same_Some v w (at ∙ e)) is
 
+-- the state of a number is one of the vertex
 pub state_in : (q : Problem) (v : Vertex) (n : ℕ) (s : State) → n < length (space q v)
     → s ≡ state_at q v n → Contains (space q v) s
 state_in q v n s lt is = subst (Contains (space q v)) (sym is) (found (space q v) n absent lt)

@@ -349,12 +349,25 @@ fn is_itself(own: &Own<'_>, asked: &FeatureName, dependency: &DependencyParts, c
         && *own.feature == *asked
 }
 
-/// The causes, each once.
-#[tactic(auto, using(crate::proofs::SameCauses::cause_put))]
+/// The causes, each once. Most pairs have one at most, which needs no set.
 pub(crate) fn each_once<'a>(
     alloc: Global,
-    causes: &[Cause<'a>],
-) -> Result<IndexSet<Cause<'a>>, AllocError>
+    causes: Vec<Cause<'a>>,
+) -> Result<Vec<Cause<'a>>, AllocError>
+    ensures { IfOk result (λ v. cause_views v.items ≡ with_causes [] (cause_views causes.entry.items)) }
+{
+    if causes.len() < 2 {
+        return Ok(causes);
+    }
+    let kept = kept_once(alloc, causes.as_slice())?;
+    let mut once = Vec::new(alloc);
+    once.extend_from_slice(kept.as_slice())?;
+    Ok(once)
+}
+
+/// A set of the causes, in their order.
+#[tactic(auto, using(crate::proofs::SameCauses::cause_put))]
+fn kept_once<'a>(alloc: Global, causes: &[Cause<'a>]) -> Result<IndexSet<Cause<'a>>, AllocError>
     ensures { IfOk result (λ s. cause_views s.keys ≡ with_causes [] (cause_views causes.now)) }
 {
     let mut kept = IndexSet::new(alloc);

@@ -11,7 +11,7 @@ ghost use Rattle.features.specs.Views.{dependency_view, dependency_views};
 ghost use Rattle.model.specs.Axioms.{is_lower};
 ghost use Rattle.model.specs.Selection as model;
 ghost use Rattle.model.specs.Summary as summary;
-ghost use Rattle.model.specs.Vertices.{dep};
+ghost use Rattle.model.specs.Vertices.{dep, owner_brings};
 ghost use Rattle.numbering.specs.inner.AskedFor.{AreBeside, HasOther, IsNoted, IsNotedFor, KeepsListed, KeepsNoted};
 ghost use Rattle.numbering.specs.inner.AskedFor.{listed_at};
 ghost use Rattle.numbering.specs.inner.AskedFor.{listed_if, noted_beside, noted_views};
@@ -23,7 +23,7 @@ use crate::called::Numbered;
 use crate::known_problem::KnownProblem;
 use crate::leading::Lead;
 use crate::newest::is_other;
-use crate::owners::{dependencies_of, dependency_at};
+use crate::owners::{dependencies_of, dependency_in};
 use crate::possible_classes::classes_of;
 use classes::Class;
 use features::{Dependency, DependencyParts, PackageName};
@@ -212,8 +212,9 @@ impl<'a> Noted<'a> {
             number,
             class,
         };
-        match dependency_at(known, &owner, number) {
-            Some(dependency) => self.note_lead(alloc, known, lead, dependency),
+        let all = dependencies_of(known, &owner);
+        match dependency_in(all, number) {
+            Some(dependency) => self.note_lead(alloc, known, lead, all, dependency),
             None => Ok(Vec::new(alloc)),
         }
     }
@@ -223,8 +224,11 @@ impl<'a> Noted<'a> {
         alloc: Global,
         known: &KnownProblem<'a>,
         lead: Lead<'a>,
+        all: &[Dependency],
         dependency: &'a DependencyParts,
     ) -> Result<Vec<(usize, Class)>, AllocError>
+        requires { dependency_views all.now
+            ≡ (owner_brings (problem known.now) (owner_ref_view lead.owner)).dependencies }
         ensures kept { KeepsNoted self.old self.new }
         ensures noted { OnOk result (HasOther (problem known.now) (owner_ref_view lead.entry.owner) lead.entry.number
             (dependency_view dependency.entry.now) → IsNotedFor (problem known.now) self.new
@@ -235,7 +239,7 @@ impl<'a> Noted<'a> {
             ≡ noted_beside (problem known.now) self.old (owner_ref_view lead.entry.owner)
             (dependency_view dependency.entry.now) (class_view lead.entry.class)) }
     {
-        if !has_other(known, lead, dependency) {
+        if !has_other(known, lead, all, dependency) {
             return Ok(Vec::new(alloc));
         }
         let name = &dependency.real_name;
@@ -249,15 +253,22 @@ impl<'a> Noted<'a> {
     }
 }
 
-/// Whether the owner has another dependency on the package.
-fn has_other<'a>(known: &KnownProblem<'a>, lead: Lead<'a>, dependency: &'a DependencyParts) -> bool
+/// Whether the owner, of which all dependencies are given, has another one on the package.
+fn has_other<'a>(
+    known: &KnownProblem<'a>,
+    lead: Lead<'a>,
+    all: &[Dependency],
+    dependency: &'a DependencyParts,
+) -> bool
+    requires { dependency_views all.now
+        ≡ (owner_brings (problem known.now) (owner_ref_view lead.owner)).dependencies }
     ensures { HasOther (problem known.now) (owner_ref_view lead.entry.owner) lead.entry.number
         (dependency_view dependency.entry.now) → result ≡ true }
 {
     let name = &dependency.real_name;
     match known.matched.on_package(&lead.owner, name.as_str()) {
         Some(those) => has_another(those, lead.number),
-        None => is_shared(dependencies_of(known, &lead.owner), lead.number, name),
+        None => is_shared(all, lead.number, name),
     }
 }
 

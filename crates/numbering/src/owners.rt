@@ -1,6 +1,6 @@
 //! What owners bring, looked up in a known problem.
 
-ghost use Rattle.std.specs.Prelude.{◌≡◌, option_map};
+ghost use Rattle.std.specs.Prelude.{◌≡◌, option_map, slice_get};
 ghost use Rattle.features.specs.Views.{dependency_view, dependency_views, brings_view};
 ghost use Rattle.model.specs.Vertices.{owner_brings};
 ghost use Rattle.model.specs.Causes.{dependency_at};
@@ -29,6 +29,17 @@ pub(crate) fn dependencies_of<'a>(
 {
     let held = known.held();
     lookups::dependencies_of(&held, owner)
+}
+
+/// The dependency of this number among all of an owner.
+pub(crate) fn dependency_in<'a>(
+    dependencies: &'a [Dependency],
+    number: usize,
+) -> Option<&'a DependencyParts>
+    ensures { option_map (λ d. dependency_view d.now) result
+        ≡ slice_get (dependency_views dependencies.entry.now) number }
+{
+    Some(dependencies.get(number)?)
 }
 
 /// The dependency of an owner that has this number.

@@ -22,7 +22,6 @@ use crate::owners::dependencies_of;
 use crate::possible_classes::classes_at;
 use classes::Class;
 use features::{FeatureName, PackageName};
-use indexmap::IndexSet;
 use lookups::Cause;
 use semver::Version;
 use std::alloc::{AllocError, Global};
@@ -34,16 +33,16 @@ pub fn causes_at<'a>(
     known: &KnownProblem<'a>,
     vertex: VertexRef<'a>,
     state: StateRef<'a>,
-) -> Result<IndexSet<Cause<'a>>, AllocError>
+) -> Result<Vec<Cause<'a>>, AllocError>
     requires default { KnowsDefault known.now }
     requires vertex { IsVertex (problem known.now) (vertex_ref_view vertex) }
     requires state { Contains (model.space (problem known.now) (vertex_ref_view vertex)) (state_ref_view state) }
-    ensures { IfOk result (λ s. AreCausesAt (problem known.now)
-        (vertex_ref_view vertex.entry, state_ref_view state.entry) (cause_views s.keys)) }
+    ensures { IfOk result (λ v. AreCausesAt (problem known.now)
+        (vertex_ref_view vertex.entry, state_ref_view state.entry) (cause_views v.items)) }
 {
     let mut causes = Vec::new(alloc);
     put_causes(alloc, known, &mut causes, vertex, state)?;
-    each_once(alloc, causes.as_slice())
+    each_once(alloc, causes)
 }
 
 fn put_causes<'a>(
@@ -78,14 +77,14 @@ pub(crate) fn causes_asked<'a>(
     those: &[(usize, Class)],
     vertex: VertexRef<'a>,
     state: StateRef<'a>,
-) -> Result<IndexSet<Cause<'a>>, AllocError>
+) -> Result<Vec<Cause<'a>>, AllocError>
     requires default { KnowsDefault known.now }
-    ensures { IfOk result (λ s. cause_views s.keys ≡ with_causes [] (asked_causes (problem known.now)
+    ensures { IfOk result (λ v. cause_views v.items ≡ with_causes [] (asked_causes (problem known.now)
         (noted_views those.now) (vertex_ref_view vertex.entry) (state_ref_view state.entry))) }
 {
     let mut causes = Vec::new(alloc);
     put_asked_causes(alloc, known, those, &mut causes, vertex, state)?;
-    each_once(alloc, causes.as_slice())
+    each_once(alloc, causes)
 }
 
 fn put_asked_causes<'a>(

@@ -1,9 +1,9 @@
 -- The causes of the instances that are added once a vertex has a state, where those that name two dependencies in
 -- classes wait until both of these were asked for.
-use Rattle.std.specs.Prelude.{◌≡◌, ◌⊎◌, ◌&&◌, ℕ, nat_eq, List, [], ◌∷◌, ◌++◌, Bool, true, if◌then◌else◌, map, Contains}
+use Rattle.std.specs.Prelude.{◌≡◌, ◌≢◌, ◌⊎◌, ◌&&◌, ℕ, nat_eq, List, [], ◌∷◌, ◌++◌, Bool, true, if◌then◌else◌, map, Contains}
 use Rattle.std.specs.Prelude.{Option, None, Some}
 use Rattle.std.specs.Cmp.Lexicographic.{pointwise}
-use Rattle.std.specs.List.{flat_map}
+use Rattle.std.specs.List.{AllPairs, flat_map}
 use Rattle.std.specs.Map.{lookup}
 use Rattle.classes.specs.Classes.{class_view}
 use Rattle.classes.specs.contracts.class.ClassPartialEq.TheImpl as class_eq
@@ -108,13 +108,14 @@ module _ (q : Problem) where
   asked_causes ps v s = causes_at q v s
 
 -- What is given for a pair that is asked for after others: the instances of causes that name it and, if a second one,
--- one of the others.
+-- one of the others, each once.
 pub record IsGivenNext (q : Problem) (vs : Numbering) (IsBefore : Pair → Type 0) (p : Pair)
     (xs : List Given) : Type 0 where
   pub causes : List Cause
   pub there : (c : Cause) → Contains causes c → (is_cause q c ≡ true) × Contains (pairs_of c) p
   pub all : (c : Cause) → is_cause q c ≡ true → Contains (pairs_of c) p
       → ((r : Pair) → Contains (pairs_of c) r → (r ≡ p) ⊎ IsBefore r) → Contains causes c
+  pub once : AllPairs (λ a b. a ≢ b) causes
   pub given : AreGiven q vs causes xs
 
 -- and where no other was asked for

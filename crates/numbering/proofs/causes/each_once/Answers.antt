@@ -1,18 +1,15 @@
-use Rattle.std.proofs.Common.{◌≡◌, ◌∙◌, ◌+◌, ◌∷◌, drop, ap, sym}
-use Rattle.std.proofs.lemmas.List.{drop_more}
+use Rattle.std.proofs.Common.{◌≡◌, ◌<◌, [], ◌∷◌, List, length, refl, rules, arith, vec_len}
+use Rattle.lookups.specs.declared.cause.Cause.{Cause}
 use Rattle.numbering.specs.GivenViews.{cause_views}
 use Rattle.numbering.specs.inner.CausesAt.{with_causes}
-use Rattle.numbering.proofs.SameCauses.{cause_put}
 use Rattle.numbering.proofs.causes.each_once.Goals as goal
 
-pub causes-preserved : goal.causes-preserved
-causes-preserved c =
-    let xs = c.args.causes.now in
-    let i = c.causes.cause-index in
-    let x = c.cause-item.result in
-    let left = drop (i + 1) xs in
-    let here : drop i xs ≡ x ∷ left = drop_more xs i x c.causes-test.true ∙ ap (λ y. y ∷ left) (sym c.cause-item.is) in
-    ap (λ ks. with_causes ks (cause_views left))
-    (ap cause_views c.in_ok-insert.ensures.keys ∙ cause_put x c.causes.kept.keys)
-    ∙ ap (λ l. with_causes (cause_views c.causes.kept.keys) (cause_views l)) (sym here)
-    ∙ c.causes.invariant
+few : (xs : List Cause) → length xs < 2 → cause_views xs ≡ with_causes [] (cause_views xs)
+few [] lt = refl
+few (x ∷ []) lt = refl
+few (x ∷ y ∷ xs) lt = absurd (omega (arith, lt))
+
+pub returns-then-len-lt2 : goal.returns-then-len-lt2
+returns-then-len-lt2 c =
+    let counted : vec_len c.args.causes ≡ length c.args.causes.items = search rules in
+    few c.args.causes.items (omega (arith, c.if-len-lt2.true, c.len.ensures, counted))

@@ -30,7 +30,7 @@ instances-requires-clause-there g c =
     let q = problem c.args.known.now in
     let p : Pair = (vertex_ref_view c.in-Some.vertex, state_ref_view c.in_ok-state.state) in
     causes_there q p (cause_views c.as_slice.result.now)
-    (subst (λ l. AreCausesAt q p (cause_views l)) (sym c.as_slice.ensures.keys) c.in_ok-causes.ensures)
+    (subst (λ l. AreCausesAt q p (cause_views l)) (sym c.as_slice.ensures.value) c.in_ok-causes.ensures)
 
 pub returns-clause-given : goal.returns-clause-given
 returns-clause-given g c =
@@ -48,7 +48,7 @@ returns-clause-given g c =
     c.args.number v c.in-Some.ensures
     (subst (λ (s : State). IsGivenAt q new (v, s) (given_views tests xs.items)) c.in_ok-state.ensures (record {
       causes = cs;
-      are = subst (λ l. AreCausesAt q p (cause_views l)) (sym c.as_slice.ensures.keys) c.in_ok-causes.ensures;
+      are = subst (λ l. AreCausesAt q p (cause_views l)) (sym c.as_slice.ensures.value) c.in_ok-causes.ensures;
       given = given;
     })))
     c.instances.ensures.given
@@ -64,7 +64,7 @@ returns-clause-only g c =
     at_number (λ u. AddsOnly (IsSpokenOf q (IsCauseAt q (u, state_at q u n))) old new) old c.args.number v
     c.in-Some.ensures (subst (λ (s : State). AddsOnly (IsSpokenOf q (IsCauseAt q (v, s))) old new)
     c.in_ok-state.ensures (pair_adds q p (cause_views c.as_slice.result.now) old new
-    (subst (λ l. AreCausesAt q p (cause_views l)) (sym c.as_slice.ensures.keys) c.in_ok-causes.ensures)
+    (subst (λ l. AreCausesAt q p (cause_views l)) (sym c.as_slice.ensures.value) c.in_ok-causes.ensures)
     c.instances.ensures.only))
 
 pub returns-in_default-clause-given : goal.returns-in_default-clause-given

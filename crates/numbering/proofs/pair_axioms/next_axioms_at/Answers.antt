@@ -1,8 +1,10 @@
-use Rattle.std.proofs.Common.{◌≡◌, Contains, [], Some, sym, ap, ◌∙◌, slice_get, subst}
+use Rattle.std.proofs.Common.{◌≡◌, ◌≢◌, Contains, [], Some, sym, ap, ◌∙◌, slice_get, subst}
+use Rattle.std.specs.List.{AllPairs}
 use Rattle.std.proofs.lemmas.Option.{none-some}
 use Rattle.std.proofs.lemmas.Result.{IfOk-weaker}
 use Rattle.model.specs.Axioms.{IsVertex}
 use Rattle.model.specs.Vertices.{State, Vertex}
+use Rattle.model.proofs.Lists.{pairs_none}
 use Rattle.model.proofs.Members.{element}
 use Rattle.numbering.specs.inner.AskedFor.{AreBeside, IsGivenNext, IsNoted, asked_causes, noted_views}
 use Rattle.numbering.specs.inner.Assignments.{state_at}
@@ -14,7 +16,7 @@ use Rattle.vertices.specs.inner.RefViews.{state_ref_view, vertex_ref_view}
 use Rattle.numbering.proofs.AddLaws.{all_there, at_number, state_in}
 use Rattle.numbering.proofs.ListLaws.{on_ok_always}
 use Rattle.numbering.proofs.Overtaken.{next_listed, next_there}
-use Rattle.numbering.proofs.SameCauses.{same_ones}
+use Rattle.numbering.proofs.SameCauses.{all_once, same_ones}
 use Rattle.numbering.proofs.pair_axioms.next_axioms_at.Goals as goal
 
 pub instances-requires-clause-there : goal.instances-requires-clause-there
@@ -28,7 +30,7 @@ instances-requires-clause-there g c =
     state_in q v c.args.state s (c.requires.state v (sym c.in-Some.ensures)) c.in_ok-state.ensures in
     let listed = asked_causes q ps v s in
     let are : cause_views c.as_slice-2.result.now ≡ with_causes [] listed =
-    ap cause_views c.as_slice-2.ensures.keys ∙ c.in_ok-causes.ensures in
+    ap cause_views c.as_slice-2.ensures.value ∙ c.in_ok-causes.ensures in
     all_there q (cause_views c.as_slice-2.result.now)
     (λ x i. (next_there q ps v s is within x ((same_ones listed x).0 (subst (λ l. Contains l x) are i))).0)
 
@@ -48,7 +50,7 @@ returns-clause-given g c =
     let beside =
     subst (λ l. AreBeside q old (v, s) (noted_views l)) (sym c.as_slice.ensures.value) c.in_ok-those.ensures.beside in
     let cs = cause_views c.as_slice-2.result.now in
-    let are : cs ≡ with_causes [] listed = ap cause_views c.as_slice-2.ensures.keys ∙ c.in_ok-causes.ensures in
+    let are : cs ≡ with_causes [] listed = ap cause_views c.as_slice-2.ensures.value ∙ c.in_ok-causes.ensures in
     IfOk-weaker c.instances.result (λ xs. AreGiven q new cs (given_views tests xs.items))
     (λ xs. (w : Vertex) → slice_get c.args.table.now c.args.number ≡ Some w
     → IsGivenNext q new (IsNoted q old) (w, state_at q w n) (given_views tests xs.items))
@@ -60,6 +62,7 @@ returns-clause-given g c =
       there = λ x i. next_there q ps v s is within x ((same_ones listed x).0 (subst (λ l. Contains l x) are i));
       all = λ x t here rest. subst (λ l. Contains l x) (sym are)
           ((same_ones listed x).1 (next_listed q ps old v s x beside t here rest));
+      once = subst (AllPairs (λ a b. a ≢ b)) (sym are) (all_once [] listed (pairs_none (λ a b. a ≢ b)));
       given = given;
     })))
     c.instances.ensures.given

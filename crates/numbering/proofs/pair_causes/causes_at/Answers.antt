@@ -13,10 +13,10 @@ returns c =
     let q = problem c.args.known.now in
     let v = vertex_ref_view c.args.vertex in
     let s = state_ref_view c.args.state in
-    IfOk-weaker c.each_once.result (λ t. cause_views t.keys ≡ with_causes [] (cause_views c.as_slice.result.now))
-    (λ t. AreCausesAt q (v, s) (cause_views t.keys))
-    (λ t e. at_exact q v s c.requires.vertex c.requires.state (cause_views t.keys)
-    (e ∙ ap (λ xs. with_causes [] (cause_views xs)) c.as_slice.ensures.value
-    ∙ ap (with_causes [])
+    IfOk-weaker c.each_once.result
+    (λ t. cause_views t.items ≡ with_causes [] (cause_views c.put_causes.new.causes.items))
+    (λ t. AreCausesAt q (v, s) (cause_views t.items))
+    (λ t e. at_exact q v s c.requires.vertex c.requires.state (cause_views t.items)
+    (e ∙ ap (with_causes [])
     (c.in_ok-put_causes.ensures ∙ ap (λ xs. cause_views xs ++ causes_at q v s) c.new-causes.ensures.items)))
     c.each_once.ensures

@@ -1,5 +1,5 @@
 use Rattle.std.proofs.Common.{◌≡◌, Some, sym, ap, ◌∙◌, subst}
-use Rattle.std.specs.Prelude.{option_map}
+use Rattle.std.specs.Prelude.{option_map, slice_get}
 use Rattle.std.proofs.lemmas.Result.{IfOk-weaker, on_ok_weaker}
 use Rattle.classes.specs.Classes.{class_view}
 use Rattle.features.specs.Views.{dependency_view}
@@ -19,7 +19,8 @@ returns-in-Some-clause-noted c =
     let d = dependency_view c.in-Some.dependency.now in
     let k = class_view c.in-Class.class in
     let at : dependency_at q o i ≡ Some d =
-    sym c.dependency_at.ensures ∙ ap (option_map (λ d. dependency_view d.now)) c.in-Some.is in
+    ap (λ ds. slice_get ds i) (sym c.dependencies_of-all.ensures) ∙ sym c.dependency_in.ensures
+    ∙ ap (option_map (λ d. dependency_view d.now)) c.in-Some.is in
     on_ok_weaker c.note_lead.result (λ there. subst (λ (s : State). IsNoted q c.note_lead.new.self (dep o i, s))
     (sym (ap state_ref_view c.in-Class.is)) (noted_as q c.note_lead.new.self o i d k at there))
     c.note_lead.ensures.noted
@@ -33,7 +34,8 @@ returns-in-Some-clause-beside c =
     let d = dependency_view c.in-Some.dependency.now in
     let k = class_view c.in-Class.class in
     let at : dependency_at q o i ≡ Some d =
-    sym c.dependency_at.ensures ∙ ap (option_map (λ d. dependency_view d.now)) c.in-Some.is in
+    ap (λ ds. slice_get ds i) (sym c.dependencies_of-all.ensures) ∙ sym c.dependency_in.ensures
+    ∙ ap (option_map (λ d. dependency_view d.now)) c.in-Some.is in
     IfOk-weaker c.note_lead.result (λ v. HasOther q o i d → noted_views v.items ≡ noted_beside q ns o d k)
     (λ v. AreBeside q ns (dep o i, state_ref_view c.args.state) (noted_views v.items))
     (λ v all. subst (λ (s : State). AreBeside q ns (dep o i, s) (noted_views v.items))

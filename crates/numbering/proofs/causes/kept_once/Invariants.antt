@@ -1,7 +1,7 @@
 use Rattle.std.proofs.Common.{◌≡◌, [], drop}
 use Rattle.numbering.specs.GivenViews.{cause_views}
 use Rattle.numbering.specs.inner.CausesAt.{with_causes}
-use Rattle.numbering.proofs.causes.each_once.Given as goal
+use Rattle.numbering.proofs.causes.kept_once.Given as goal
 
 -- those kept so far, with those that are left, are all
 abbrev pub invariant-causes : goal.invariant-causes
