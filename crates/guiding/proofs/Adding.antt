@@ -128,6 +128,7 @@ of_all q vs p xs is = record {
     | inl e ↦ (is.are.listed c).1 (t, e)
     | inr x ↦ absurd x
   ];
+  once = is.are.once;
   given = is.given;
 }
 

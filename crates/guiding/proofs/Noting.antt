@@ -61,6 +61,7 @@ given_less q vs IsBefore IsThen p xs are given = record {
   there = given.there;
   all = λ c t here rest. given.all c t here
       (λ r h. elim (rest r h) [ inl e ↦ inl e | inr then ↦ inr (are r then) ]);
+  once = given.once;
   given = given.given;
 }
 

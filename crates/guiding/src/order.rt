@@ -6,7 +6,8 @@
 //!
 //! After many conflicts on long trails the search is a hard one: each conflict counts, and a later one more (the
 //! activity of SAT solvers), since most of so many vertices have no part in what is wrong. On short trails that may take
-//! far more steps (docs/DECISIONS.md).
+//! far more steps (docs/DECISIONS.md). A conflict that teaches what holds for good makes no search hard: there are no
+//! more of these than states, and a name of many versions that fail one by one has as many.
 
 ghost use Rattle.std.specs.Prelude.{◌≡◌, length};
 ghost use Rattle.propagation.specs.Promises.{IsSound};
@@ -56,7 +57,7 @@ pub(crate) struct Order {
     weights: Vec<u64>,
     /// What the next conflict counts.
     counts: u64,
-    /// How many conflicts were on long trails.
+    /// How many conflicts were on long trails, and taught what holds at some levels alone.
     long: usize,
     /// The level that the next decision opens.
     level: usize,
@@ -144,7 +145,7 @@ impl Order {
         Ok(None)
     }
 
-    /// Whether there were many conflicts on long trails.
+    /// Whether there were many such conflicts on long trails.
     pub(crate) fn is_hard(&self) -> bool {
         self.long > PATIENCE
     }
@@ -160,7 +161,7 @@ impl Order {
     ) -> Result<(), AllocError> {
         let jump = self.level.saturating_sub(level);
         self.level = level;
-        if self.followed >= LONG {
+        if level > 0 && self.followed >= LONG {
             self.long = self.long.saturating_add(1);
         }
         let is_hard = self.is_hard();
