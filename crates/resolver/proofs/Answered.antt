@@ -94,8 +94,8 @@ of-new : (old : Option (List ℕ)) (inputs : Inputs) (bytes : Vec ℕ Global) (s
     → said ≡ false → IsNew inputs bytes.items said → IsAnswer old inputs (Lock bytes said skips)
 of-new old inputs bytes said skips says skipped is n =
     subst (λ b. IsAnswer old inputs (Lock bytes b skips)) (sym is)
-    (new_lock bytes skips n.content (λ can. n.not_held (can-hold old inputs says can)) n.reads n.spelled n.chosen.valid
-    n.chosen.bare_root n.chosen.walk n.chosen.needed skipped)
+    (new_lock bytes skips n.content (λ can. n.not_held (can-hold old inputs says can)) n.reads n.spelled n.chosen
+    skipped)
 
 -- an answer is a reply with the skipped lines
 pub answered : (old : Option (List ℕ)) (inputs : Inputs) (given : Reply) (skips : Vec Skip Global)
@@ -106,7 +106,7 @@ answered old inputs (reply.Lock bytes said) skips says skipped (inl k) =
 answered old inputs (reply.Lock bytes said) skips says skipped (inr n) =
     of-new old inputs bytes said skips says skipped n.is_new n
 answered old inputs (reply.Unsolvable derivation text) skips says skipped e =
-    no_lock derivation text skips (e.unsolvable).accepted (e.unsolvable).none e.explained skipped
+    no_lock derivation text skips e.unsolvable e.explained skipped
 
 -- ---- the call
 

@@ -84,9 +84,8 @@ AcceptsIn inputs (Unsolvable derivation text skips) = IsAccepted (problem_of inp
 accepted-in : (old : Option (List ℕ)) (inputs : Inputs) (answer : Answer) → IsAnswer old inputs answer
     → AcceptsIn inputs answer
 accepted-in old inputs answer (kept_lock bytes skips own means skipped) = tt
-accepted-in old inputs answer
-    (new_lock bytes skips content not_kept reads spelled valid bare_root walk brought skipped) = tt
-accepted-in old inputs answer (no_lock derivation text skips accepted no_selection explained skipped) = accepted
+accepted-in old inputs answer (new_lock bytes skips content not_kept reads spelled chosen skipped) = tt
+accepted-in old inputs answer (no_lock derivation text skips unsolvable explained skipped) = unsolvable.accepted
 
 pub proved : (failed : Files → ℕ) (folder : Files) (request : RequestView) (derivation : List Step)
     (text : String Global) (skips : Vec Skip Global) (after : Files)

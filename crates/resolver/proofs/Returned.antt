@@ -43,9 +43,9 @@ IsGiven inputs (Unsolvable derivation text skips) = Unit {0}
 
 given : (old : Option (List ℕ)) (inputs : Inputs) (answer : Answer) → IsAnswer old inputs answer → IsGiven inputs answer
 given old inputs answer (kept_lock bytes skips own means skipped) = means
-given old inputs answer (new_lock bytes skips content not_kept reads spelled valid bare_root walk brought skipped) =
-    record { content = content; reads = reads; valid = valid }
-given old inputs answer (no_lock derivation text skips accepted no_selection explained skipped) = tt
+given old inputs answer (new_lock bytes skips content not_kept reads spelled chosen skipped) =
+    record { content = content; reads = reads; valid = chosen.valid }
+given old inputs answer (no_lock derivation text skips unsolvable explained skipped) = tt
 
 module _ (failed : Files → ℕ) (folder : Files) (request : RequestView) (bytes : Vec ℕ Global) (kept : Bool)
     (skips : Vec Skip Global) (after : Files)
@@ -166,10 +166,9 @@ module _ (failed : Files → ℕ) (folder : Files) (request : RequestView) (byte
 
       by : (other : Answer) → IsAnswer (Some bytes.items) second.inputs other → ComesBack bytes.items (Ok other)
       by other (kept_lock more skips' own means skipped) = (sym (same-Some own), refl)
-      by other (new_lock more skips' content not_kept reads spelled valid bare_root walk brought skipped) =
-          absurd (not_kept can)
-      by other (no_lock derivation text skips' accepted no_selection explained skipped) =
-          absurd (no_selection can.2.content can.2.valid)
+      by other (new_lock more skips' content not_kept reads spelled chosen skipped) = absurd (not_kept can)
+      by other (no_lock derivation text skips' unsolvable explained skipped) =
+          absurd (unsolvable.none can.2.content can.2.valid)
   comes (Err f) later second = by (input_wants_memory f) refl second
     where
       by : (b : Bool) → input_wants_memory f ≡ b
@@ -232,8 +231,7 @@ pub locks_selected : (old : Option (List ℕ)) (inputs : Inputs) (answer : Answe
     → IsSomeLock answer ↔ ((content : Content) × IsValidSelection (problem_of inputs) content)
 locks_selected old inputs answer (kept_lock bytes skips own means skipped) =
     (λ _. (means.content, means.valid), λ _. tt)
-locks_selected old inputs answer
-    (new_lock bytes skips content not_kept reads spelled valid bare_root walk brought skipped) =
-    (λ _. (content, valid), λ _. tt)
-locks_selected old inputs answer (no_lock derivation text skips accepted no_selection explained skipped) =
-    (λ no. absurd no, λ some. no_selection some.0 some.1)
+locks_selected old inputs answer (new_lock bytes skips content not_kept reads spelled chosen skipped) =
+    (λ _. (content, chosen.valid), λ _. tt)
+locks_selected old inputs answer (no_lock derivation text skips unsolvable explained skipped) =
+    (λ no. absurd no, λ some. unsolvable.none some.0 some.1)

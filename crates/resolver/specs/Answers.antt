@@ -3,7 +3,7 @@ use Rattle.std.specs.Prelude.{◌≡◌, ◌≢◌, ◌<◌, ◌⊎◌, ◌↔�
 use Rattle.std.specs.Prelude.{Option, Some, Result, Ok, Err, String, Vec, string_bytes}
 use Rattle.std.specs.declared.alloc.Global.{Global}
 use Rattle.model.specs.Content.{Content, Problem}
-use Rattle.model.specs.Derivation.{IsAccepted, Step}
+use Rattle.model.specs.Derivation.{Step}
 use Rattle.model.specs.Selection.{IsValidSelection}
 use Rattle.index_reader.specs.Files.{skip_view}
 use Rattle.index_reader.specs.declared.skip.Skip.{Skip}
@@ -15,7 +15,7 @@ use Rattle.selection.specs.Verdicts.{IsVerdictOn}
 use Rattle.selection.specs.declared.verdict.Verdict.{Verdict}
 use Rattle.selection.specs.declared.verdict.Verdict.TheVariants.{Valid}
 use Rattle.explainer.specs.Explanations.{explanation_of}
-use Rattle.model.specs.Selected.{HasBareRoot, IsBrought, IsPreferred, IsSelected}
+use Rattle.model.specs.Selected.{IsSelected, IsUnsolvable}
 use Rattle.catalogue.specs.Problems.{preferred_in}
 use Rattle.resolver.specs.Inputs.{input_wants_memory, RequestView, AreRead, IsInputFault, EndsWith}
 use Rattle.resolver.specs.Inputs.{problem_of}
@@ -63,10 +63,6 @@ pub record MeansSelection (q : Problem) (bytes : List ℕ) : Type 0 where
 abbrev pub CanKeep : Option (List ℕ) → Inputs → Type 0
 CanKeep old inputs = (bytes : List ℕ) × (old ≡ Some bytes) × MeansSelection (problem_of inputs) bytes
 
--- the preferred walk, where that is complete and a valid selection
-abbrev pub IsBestWalk : Inputs → Content → Type 0
-IsBestWalk inputs content = IsPreferred (problem_of inputs) (preferred_in inputs.catalogue) content
-
 -- what may be chosen for a new lock
 abbrev pub IsChosen : Inputs → Content → Type 0
 IsChosen inputs = IsSelected (problem_of inputs) (preferred_in inputs.catalogue)
@@ -83,24 +79,18 @@ pub data IsAnswer (old : Option (List ℕ)) (inputs : Inputs) : Answer → Type 
       → (means : MeansSelection (problem_of inputs) bytes.items)
       → (skipped : AreSkips inputs skips)
       → IsAnswer old inputs (Lock bytes true skips)
-  -- a new lock, where there is none to keep: bytes that read as a content whose spelling they are; that is a valid
-  -- selection, whose root has no checksum; where the preferred walk is complete and valid it is that walk, and where it
-  -- isn't, the root alone brings all of it
+  -- a new lock, where there is none to keep: bytes that read as what is chosen, whose spelling they are
   new_lock : (bytes : Vec ℕ Global) (skips : Vec Skip Global) (content : Content)
       → (not_kept : CanKeep old inputs → ⊥)
       → (reads : content_of_bytes bytes.items ≡ Ok content)
       → (spelled : bytes.items ≡ spelling content)
-      → (valid : IsValidSelection (problem_of inputs) content)
-      → (bare_root : HasBareRoot (problem_of inputs) content)
-      → (walk : (w : Content) → IsBestWalk inputs w → w ≡ content)
-      → (brought : IsBrought (problem_of inputs) content ⊎ IsBestWalk inputs content)
+      → (chosen : IsChosen inputs content)
       → (skipped : AreSkips inputs skips)
       → IsAnswer old inputs (Lock bytes false skips)
   -- that there is none: a derivation that the checker accepts, while no content at all is a valid selection, and the
   -- text that tells it
   no_lock : (derivation : List Step) (text : String Global) (skips : Vec Skip Global)
-      → (accepted : IsAccepted (problem_of inputs) derivation)
-      → (no_selection : (content : Content) → IsValidSelection (problem_of inputs) content → ⊥)
+      → (unsolvable : IsUnsolvable (problem_of inputs) derivation)
       → (explained : string_bytes text ≡ explanation_of derivation)
       → (skipped : AreSkips inputs skips)
       → IsAnswer old inputs (Unsolvable derivation text skips)
