@@ -84,14 +84,14 @@ fn checked<'a, R: Files + AllocGlobal>(
     said: &mut Said,
 ) -> Result<Wish, Failure<'a>> {
     Ok(Wish {
-        is_member: is_member(rt, project, wish.write, said)?,
+        is_member: tell_workspace(rt, project, wish.write, said)?,
         ..wish
     })
 }
 
 /// Whether the manifest is a member of a workspace, whose lock Cargo takes: that is told, and where the lock is to be
 /// written refused.
-fn is_member<'a, R: Files + AllocGlobal>(
+fn tell_workspace<'a, R: Files + AllocGlobal>(
     rt: &R,
     project: Project<'_>,
     writes: bool,
@@ -302,7 +302,7 @@ pub(crate) fn verify_at<'a, R: Files + Clock + Eprint + AllocGlobal + Clone + Dr
 ) -> Result<Outcome, Failure<'a>> {
     let bytes = with_lock(rt, paths, said)?;
     let project = Project::of(paths, &bytes);
-    is_member(rt, project, false, said)?;
+    tell_workspace(rt, project, false, said)?;
     let mut index = index_at(rt, paths, watch)?;
     let told = verify_told(rt.alloc(), &mut *index, project, said);
     Ok(ended(rt, project, told, &index, watch, said)?)
@@ -322,7 +322,7 @@ pub(crate) fn why_at<'a, R: Files + Clock + Eprint + AllocGlobal + Clone + Drop>
     };
     let bytes = with_lock(rt, paths, said)?;
     let project = Project::of(paths, &bytes);
-    is_member(rt, project, false, said)?;
+    tell_workspace(rt, project, false, said)?;
     let mut index = index_at(rt, paths, watch)?;
     let told = why_told(
         rt.alloc(),
@@ -347,7 +347,7 @@ fn with_lock<'a, R: Files + AllocGlobal>(
         Err(ReadFault::CannotRead(path, error)) => {
             if path == paths.lock.as_str() && error.kind() == ErrorKind::NotFound {
                 let bytes = read_files(rt, paths, false)?;
-                is_member(rt, Project::of(paths, &bytes), false, said)?;
+                tell_workspace(rt, Project::of(paths, &bytes), false, said)?;
                 Err(Failure::NoLock(path))
             } else {
                 Err(Failure::Unread(ReadFault::CannotRead(path, error)))

@@ -1,7 +1,7 @@
 //! Locked versions that an index can't give.
 
-use catalogue::Catalogue;
-use changes::{Changes, changes_between, named};
+use catalogue::{Catalogue, is_locked};
+use changes::{changes_between, named};
 use classes::Class;
 use features::PackageName;
 use flaws::{MissingTold, why_lost};
@@ -21,12 +21,11 @@ pub fn lost_between<F: Folder>(
     new: &LockContent,
 ) -> Result<Vec<String>, AllocError> {
     let changes = changes_between(alloc, Some(old), new)?;
-    let locked = changes_between(alloc, Some(rest), new)?;
-    let led_to = led_to(alloc, old, &changes)?;
+    let led_to = led_to(alloc, old, new, &changes.came)?;
     let mut sentences = Vec::new(alloc);
     for (package, is_led_to) in old.packages().iter().zip(led_to.iter()) {
         let is_behind = *is_led_to || is_replaced(package, &changes.came);
-        if !is_behind || !is_among(package, &locked.gone) {
+        if !is_behind || is_gone(package, rest) || !is_gone(package, new) {
             continue;
         }
         let Package { name, version, .. } = package;
@@ -42,16 +41,17 @@ pub fn lost_between<F: Folder>(
 fn led_to(
     alloc: Global,
     old: &LockContent,
-    changes: &Changes<'_>,
+    new: &LockContent,
+    came: &[&Package],
 ) -> Result<Vec<bool>, AllocError> {
     let packages = old.packages();
     let mut found = vec![in alloc; false; packages.len()]?;
-    let mut places = replaced_places(alloc, packages, changes)?;
+    let mut places = replaced_places(alloc, packages, new, came)?;
     for at in 0..places.len() + packages.len() {
         let Some(package) = places.get(at).and_then(|place| packages.get(*place)) else {
             break;
         };
-        follow(packages, package, changes, &mut found, &mut places)?;
+        follow(packages, package, new, &mut found, &mut places)?;
     }
     Ok(found)
 }
@@ -60,11 +60,12 @@ fn led_to(
 fn replaced_places(
     alloc: Global,
     packages: &[Package],
-    changes: &Changes<'_>,
+    new: &LockContent,
+    came: &[&Package],
 ) -> Result<Vec<usize>, AllocError> {
     let mut places = Vec::new(alloc);
     for (place, package) in packages.iter().enumerate() {
-        if is_among(package, &changes.gone) && !named(&changes.came, &package.name).is_empty() {
+        if is_gone(package, new) && !named(came, &package.name).is_empty() {
             places.push(place)?;
         }
     }
@@ -75,13 +76,13 @@ fn replaced_places(
 fn follow(
     packages: &[Package],
     package: &Package,
-    changes: &Changes<'_>,
+    new: &LockContent,
     found: &mut [bool],
     places: &mut Vec<usize>,
 ) -> Result<(), AllocError> {
     for place in package.list.iter() {
         if let (Some(next), Some(is_found)) = (packages.get(*place), found.get_mut(*place)) {
-            if !*is_found && is_among(next, &changes.gone) {
+            if !*is_found && is_gone(next, new) {
                 *is_found = true;
                 places.push(*place)?;
             }
@@ -90,10 +91,12 @@ fn follow(
     Ok(())
 }
 
-/// Whether a package is among some in package order.
-fn is_among(package: &Package, some: &[&Package]) -> bool {
-    named(some, &package.name).iter().any(|other| other.version == package.version
-        && other.source() == package.source())
+/// Whether a package has a source, and a lock lacks it.
+fn is_gone(package: &Package, lock: &LockContent) -> bool {
+    match package.source() {
+        Some(source) => !is_locked(Some(lock), &package.name, &package.version, source),
+        None => false,
+    }
 }
 
 /// `this index has no such version; the newest is 0.4.20`, where the index can't give a version of a package; nothing

@@ -15,7 +15,7 @@ use std::alloc::{AllocError, Global};
 #[derive(Clone, Copy)]
 pub(crate) struct NewLock<'a> {
     pub bytes: &'a [u8],
-    /// Whether these are the old one's own bytes.
+    /// Whether the old one says the same, and so is kept.
     pub kept: bool,
     /// Which versions were preferred.
     pub prefer: Prefer,
