@@ -55,6 +55,7 @@ impl DependencyShape<'_> {
     }
 }
 
+/// The dependencies of one table.
 #[tactic(auto, unfolding(crate::specs::Dependencies::dependencies_in))]
 pub(crate) fn dependencies_in(
     alloc: Global,
@@ -72,6 +73,7 @@ pub(crate) fn dependencies_in(
     Ok(found)
 }
 
+/// A dependency by its key and its value, which is a text or a table.
 #[tactic(auto, unfolding(crate::specs::Dependencies::dependency_of))]
 fn dependency<'a>(
     alloc: Global,
@@ -243,6 +245,7 @@ fn feature_list(alloc: Global, table: &Table, part: Part) -> Result<Vec<FeatureN
     }
 }
 
+/// The names of features in a list; an empty text is none.
 #[tactic(auto, unfolding(crate::specs::Dependencies::feature_names))]
 fn feature_names(
     alloc: Global,

@@ -45,6 +45,7 @@ fn features_in(
     Ok(found)
 }
 
+/// A feature and its entries, by its key and its value.
 #[tactic(auto, unfolding(crate::specs::Shapes::feature_of))]
 fn one_feature(
     alloc: Global,

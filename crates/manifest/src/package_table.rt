@@ -42,6 +42,7 @@ pub(crate) fn own_package(alloc: Global, top: &Table) -> Result<Option<Package>,
     }
 }
 
+/// `[package]`, or none where its name or version is left to a workspace.
 #[tactic(auto, unfolding(crate::specs::Packages::package_in))]
 fn package_in(alloc: Global, section: &Table) -> Result<Option<Package>, ManifestFault>
     ensures { Gives wants_memory (option_map package_view) result (package_in (table_view section.now)) }
@@ -88,6 +89,7 @@ fn own_version(alloc: Global, section: &Table) -> Result<Option<Version>, Manife
     Ok(Some(version(alloc, text(value, Part::Package)?)?))
 }
 
+/// The version that a text has to be: that memory is wanting is another fault than that it is none.
 fn version(alloc: Global, text: &str) -> Result<Version, ManifestFault>
     ensures value { Gives wants_memory parts_of result (version_of_text (version_parts text.now)) }
     ensures valid { IfOk result (λ v. IsValid (parts_of v)) }

@@ -52,6 +52,7 @@ pub(crate) fn target_dependencies(
     }
 }
 
+/// The dependencies of each table of `[target]`.
 #[tactic(auto, unfolding(crate::specs::Dependencies::targets_in))]
 fn targets(alloc: Global, targets: &Table) -> Result<Vec<DependencyShape<'_>>, ManifestFault>
     ensures { Gives wants_memory (λ v. dependency_views v.items) result (targets_in (table_view targets.now)) }
@@ -113,6 +114,7 @@ fn section(
     dependencies_in(alloc, table(value, part)?, part, kind)
 }
 
+/// What stands at the key of a kind, which for two of the kinds may be spelled in two ways.
 fn section_value(
     table: &Table,
     part: Part,

@@ -21,6 +21,7 @@ pub(crate) fn has_members(top: &Table) -> Result<bool, ManifestFault>
     }
 }
 
+/// Whether the key `members` has items.
 fn lists_members(workspace: &Table) -> Result<bool, ManifestFault>
     ensures { result ≡ members_at (table_view workspace.now) }
 {
