@@ -20,6 +20,7 @@ pub(crate) struct WholeTerm {
     pub states: Vec<State>,
 }
 
+/// Where a step that was read comes from; the vertex of a combination gets its number.
 pub(crate) fn keep_origin(
     tables: &mut Tables,
     origin: Origin<SpeltVertex>,
@@ -38,6 +39,7 @@ pub(crate) fn keep_origin(
     }
 }
 
+/// A term that was read; its vertex, its states and the set of these get their numbers.
 pub(crate) fn keep_term(
     alloc: Global,
     tables: &mut Tables,
@@ -54,6 +56,7 @@ pub(crate) fn keep_term(
     Ok(Term { vertex, states })
 }
 
+/// The numbers of states. They mostly follow one another, so each is first looked for behind the one before.
 fn keep_states(
     alloc: Global,
     tables: &mut Tables,

@@ -36,6 +36,7 @@ pub(crate) fn keep_named(
     Ok(Step { origin, terms })
 }
 
+/// Where a step comes from; the vertex of a combination gets its number.
 fn keep_origin(
     alloc: Global,
     tables: &mut Tables,
@@ -55,6 +56,7 @@ fn keep_origin(
     }
 }
 
+/// The terms by their numbers: those that an earlier step has are taken from there.
 fn keep_sets(
     alloc: Global,
     tables: &mut Tables,
@@ -93,6 +95,7 @@ fn found_or_new(
     }
 }
 
+/// A term that no earlier step has; its vertex, its states and the set of these get their numbers.
 fn keep_set(
     alloc: Global,
     tables: &mut Tables,
@@ -108,6 +111,7 @@ fn keep_set(
     Ok(Term { vertex, states })
 }
 
+/// The numbers of states. They mostly follow one another, so each is first looked for behind the one before.
 fn keep_states(
     alloc: Global,
     tables: &mut Tables,

@@ -55,6 +55,7 @@ pub(crate) fn read_step(
     step(alloc, tables, steps, &root(&tape))
 }
 
+/// The step that the value of a line is, after these steps.
 #[tactic(auto, unfolding(crate::specs::Steps::step_of))]
 fn step(
     alloc: Global,
@@ -152,6 +153,7 @@ fn terms(
     Ok(without_texts(alloc, &sorted)?)
 }
 
+/// The terms as they are written, in any order.
 #[tactic(auto, unfolding(crate::specs::Steps::terms_in))]
 fn terms_in<'a>(
     alloc: Global,
@@ -236,6 +238,7 @@ fn ordered_terms(terms: Vec<WrittenTerm<'_>>) -> Result<Vec<WrittenTerm<'_>>, Li
     }
 }
 
+/// Sorts the terms: two at one vertex are a fault.
 fn sorted_terms(mut terms: Vec<WrittenTerm<'_>>) -> Result<Vec<WrittenTerm<'_>>, LineFault>
     ensures same { IfOk result (λ v. IsPermutation terms.entry.items v.items) }
     ensures terms { (t : TablesView) → Gives line_wants_memory
@@ -296,6 +299,7 @@ fn ordered_states(states: Vec<State>) -> Result<Vec<State>, LineFault>
     }
 }
 
+/// Sorts the states: one that comes twice is a fault.
 fn sorted_states(mut states: Vec<State>) -> Result<Vec<State>, LineFault>
     ensures { Gives line_wants_memory (λ v. state_views v.items) result (ordered state_cmp (state_views states.items)) }
 {

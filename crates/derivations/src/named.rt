@@ -77,6 +77,7 @@ fn sets_in_order<'p, 's, 'v>(
     Ok(found)
 }
 
+/// One term, with its states in the written order.
 fn set_in_order<'p, 's, 'v>(
     alloc: Global,
     term: &NamedTerm<'p, 's, 'v>,
@@ -106,6 +107,7 @@ fn ordered_states<'s, 'v>(
     Ok(StatesInOrder::Sorted(sorted_states(alloc, states)?))
 }
 
+/// A sorted copy.
 fn sorted_states<'a>(
     alloc: Global,
     states: &[StateRef<'a>],

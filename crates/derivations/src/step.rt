@@ -12,7 +12,8 @@ pub struct Term {
     pub states: usize,
 }
 
-/// Why the terms of a step can't all hold. Of a derivation's own steps the vertex is a number.
+/// Why the terms of a step can't all hold. Of a derivation's own steps the vertex is a number. The search has an
+/// `Origin` of its own in `incompatibilities`, which keeps a whole chain of combinations as one.
 #[derive(Drop)]
 pub enum Origin<V> {
     Axiom(Kind),

@@ -46,6 +46,7 @@ pub(crate) fn whole(value: &Tree<'_, '_>) -> Result<u64, LineFault>
     }
 }
 
+/// The items of a list, which the value has to be.
 pub(crate) fn array<'t, 'a>(
     alloc: Global,
     value: &Tree<'t, 'a>,

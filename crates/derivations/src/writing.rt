@@ -63,6 +63,7 @@ fn push_step(text: &mut String, tables: &Tables, step: &Step) -> Result<(), Allo
     text.push_str("]}")
 }
 
+/// The key `axiom` or `combine` with its value.
 fn push_origin(text: &mut String, tables: &Tables, origin: &Origin<usize>) -> Result<(), AllocError>
     requires { IsOriginOf tables.now origin.now }
     ensures { OnOk result ((terms : List axioms.Term)
@@ -83,6 +84,7 @@ fn push_kind(text: &mut String, kind: Kind) -> Result<(), AllocError>
     write!(text, "\"axiom\":\"{kind}\"")
 }
 
+/// The key `combine`: two numbers of steps and a vertex.
 fn push_combination(
     text: &mut String,
     tables: &Tables,
@@ -124,6 +126,7 @@ fn push_number(text: &mut String, number: u64) -> Result<(), AllocError>
     write!(text, "{number},")
 }
 
+/// The terms, with commas between them.
 fn push_terms(text: &mut String, tables: &Tables, terms: &[Term]) -> Result<(), AllocError>
     requires { AreTermsOf tables.now terms.now }
     ensures { OnOk result
@@ -157,6 +160,7 @@ fn push_comma(text: &mut String, later: bool) -> Result<(), AllocError>
     if later { text.push_str(",") } else { Ok(()) }
 }
 
+/// The states, with commas between them.
 fn push_states(text: &mut String, tables: &Tables, states: &[usize]) -> Result<(), AllocError>
     requires { AreStatesOf tables.now states.now }
     ensures { OnOk result (string_bytes text.new
