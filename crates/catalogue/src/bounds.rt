@@ -43,6 +43,7 @@ fn some_above(comparators: &[Comparator], version: &Version) -> bool
         .any(|comparator| is_above(comparator, version))
 }
 
+/// Whether a version is older than all that a comparator matches, by the numbers of both.
 fn is_below(comparator: &Comparator, version: &Version) -> bool
     ensures { result ≡ is_below (comparator_view comparator.now) (parts_of version.now) }
 {
@@ -55,6 +56,7 @@ fn is_below(comparator: &Comparator, version: &Version) -> bool
         ) == Ordering::Less
 }
 
+/// Whether a version is newer than all that a comparator matches, by the numbers of both.
 fn is_above(comparator: &Comparator, version: &Version) -> bool
     ensures { result ≡ is_above (comparator_view comparator.now) (parts_of version.now) }
 {

@@ -36,6 +36,7 @@ impl Model for Checksum {
 }
 
 impl Checksum {
+    /// A text as bytes, if it is the digits of such, else as it is.
     pub(crate) fn of(text: String) -> Checksum
         ensures { result ≡ string_bytes text }
     {

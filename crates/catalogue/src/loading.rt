@@ -207,6 +207,7 @@ fn check_checksums(old: Option<&LockContent>, catalogue: &Catalogue) -> Result<(
     }
 }
 
+/// The first of these packages whose checksum has changed.
 #[tactic(auto, unfolding(crate::specs::Loads::first_changed))]
 fn check_packages(packages: &[Package], catalogue: &Catalogue) -> Result<(), LoadFault>
     ensures { Checks catalogue.now (package_views packages.now) result }
@@ -226,6 +227,7 @@ fn has_changed(locked: &Package, catalogue: &Catalogue) -> bool
     has_source(locked.source(), catalogue.source()) && differs(locked, catalogue)
 }
 
+/// Whether the lock has a checksum of the package, and the index another one.
 fn differs(locked: &Package, catalogue: &Catalogue) -> bool
     ensures { result ≡ differs (package_view locked.now).checksum
         (option_map said (record_at (candidates_at catalogue.now locked.now.name) (package_view locked.now).version)) }
