@@ -24,6 +24,7 @@ fn all_agree<'a>(a: &[Term<'a>], b: &[Term<'a>], terms: &[Term<'a>]) -> bool
     terms.iter().all(|term| agree(a, b, &term.vertex))
 }
 
+/// Whether both say the same of a vertex, or nothing.
 fn agree<'a>(a: &[Term<'a>], b: &[Term<'a>], vertex: &VertexRef<'a>) -> bool
     ensures { result ≡ same_at (states_at (term_views a.now) (vertex_ref_view vertex.now))
         (states_at (term_views b.now) (vertex_ref_view vertex.now)) }

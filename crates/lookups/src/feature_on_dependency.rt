@@ -22,6 +22,7 @@ use semver::Version;
 use std::alloc::{AllocError, Global};
 use vertices::OwnerRef;
 
+/// The one cause of this kind that the terms can have: they name the version and the feature.
 pub(crate) fn enabling_in<'a>(
     alloc: Global,
     numbers: &mut Numbers<'a>,
@@ -66,6 +67,7 @@ fn enabling<'a>(
     }
 }
 
+/// The number that a term names; where none does, that of the first which no candidate serves, as its term is full.
 fn enabled_number<'a>(
     alloc: Global,
     numbers: &mut Numbers<'a>,

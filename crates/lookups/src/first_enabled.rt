@@ -90,6 +90,7 @@ fn least_enabled(numbers: &HashMap<&str, usize>, entries: &[Entry]) -> Option<us
     least
 }
 
+/// The number that is kept for the name which an entry enables, if it enables one.
 fn number_enabled(numbers: &HashMap<&str, usize>, entry: &Entry) -> Option<usize>
     ensures { result ≡ number_enabled (named numbers.now) (entry_view entry.now) }
 {

@@ -22,6 +22,7 @@ use features::Dependency;
 use std::alloc::AllocError;
 use vertices::OwnerRef;
 
+/// The one cause of this kind that the terms can have: they name the owner.
 pub(crate) fn need_in<'a>(
     numbers: &mut Numbers<'a>,
     terms: &[Term<'a>],
@@ -39,6 +40,7 @@ pub(crate) fn need_in<'a>(
     }
 }
 
+/// The number that a term names; where none does, that of the first which no candidate serves, as its term is full.
 fn needed_number<'a>(
     numbers: &mut Numbers<'a>,
     owner: OwnerRef<'a>,

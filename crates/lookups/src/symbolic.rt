@@ -155,6 +155,7 @@ fn without<'a>(
     ]?)
 }
 
+/// A dependency leads to a class in which no version that it matches is chosen.
 fn target<'a>(
     alloc: Global,
     problem: &Problem<'a>,
@@ -174,6 +175,7 @@ fn target<'a>(
     }
 }
 
+/// A dependency leads to a class, and a feature that it asks for is off there.
 fn list<'a>(
     alloc: Global,
     problem: &Problem<'a>,
@@ -195,6 +197,7 @@ fn list<'a>(
     }
 }
 
+/// A version asks a dependency for a feature, and that is off in the class to which the dependency leads.
 fn ask<'a>(
     alloc: Global,
     problem: &Problem<'a>,
@@ -219,6 +222,7 @@ fn ask<'a>(
     }
 }
 
+/// A dependency leads to a class, another one to a higher class, and there a version is chosen that the first matches.
 fn newest<'a>(
     alloc: Global,
     problem: &Problem<'a>,
@@ -242,6 +246,7 @@ fn newest<'a>(
     }
 }
 
+/// A feature of a version is on, a dependency leads to a class, and a feature is off there that an entry `d?/g` wants.
 fn weak<'a>(
     alloc: Global,
     problem: &Problem<'a>,
