@@ -25,6 +25,7 @@ pub(crate) enum Named<'a> {
 }
 
 impl<'a> Named<'a> {
+    /// The same entry, borrowed.
     pub(crate) fn of(entry: &'a Entry) -> Named<'a>
         ensures { named_view result ≡ entry_view entry.entry.now }
     {

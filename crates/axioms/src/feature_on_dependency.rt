@@ -17,6 +17,7 @@ use lookups::{Problem, dependency_at, enables};
 use semver::Version;
 use vertices::OwnerRef;
 
+/// Whether the feature has the entry, and that enables the dependency of this number.
 pub(crate) fn is_enabling(
     gathered: &Gathered<'_>,
     name: &PackageName,
@@ -32,6 +33,7 @@ pub(crate) fn is_enabling(
         && enables_number(&gathered.problem, name, version, entry, number)
 }
 
+/// Whether the dependency of this number is there, and called as the entry says.
 fn enables_number(
     problem: &Problem<'_>,
     name: &PackageName,

@@ -71,6 +71,7 @@ fn put_names<'a>(
     Ok(())
 }
 
+/// Puts what the candidates of a name have and ask for.
 #[tactic(auto, unfolding(crate::specs::inner::Gathered::is_known_by))]
 fn put_name<'a>(
     alloc: Global,
@@ -115,6 +116,7 @@ fn put_had_at<'a>(
     }
 }
 
+/// Puts the features of one candidate.
 fn put_table<'a>(
     known: &mut Pairs<'a>,
     name: &'a str,
@@ -141,6 +143,7 @@ fn put_asked<'a>(
     put_versions(alloc, known, catalogue, name, catalogue.versions(name))
 }
 
+/// Puts what the candidates of these versions ask for.
 fn put_versions<'a>(
     alloc: Global,
     known: &mut Pairs<'a>,
@@ -157,6 +160,7 @@ fn put_versions<'a>(
     Ok(())
 }
 
+/// Puts what the candidate of a version asks for, if it is there.
 fn put_version<'a>(
     alloc: Global,
     known: &mut Pairs<'a>,
@@ -196,6 +200,7 @@ fn put_dependencies<'a>(
     Ok(())
 }
 
+/// Puts what a dependency asks for by its list, and what entries ask those called so for.
 fn put_dependency<'a>(
     known: &mut Pairs<'a>,
     asked: &Pairs<'a>,
@@ -287,6 +292,7 @@ fn put_entries<'a>(asked: &mut Pairs<'a>, entries: &'a [Entry]) -> Result<(), Al
     Ok(())
 }
 
+/// Puts what an entry asks for, under the name that it asks.
 fn put_entry<'a>(asked: &mut Pairs<'a>, entry: &'a Entry) -> Result<(), AllocError>
     ensures { OnOk result (Adds asked.old asked.new (λ d g. asks_for d g (entry_view entry.now))) }
 {

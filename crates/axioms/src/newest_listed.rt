@@ -14,6 +14,8 @@ use features::DependencyParts;
 use lookups::dependency_at;
 use vertices::OwnerRef;
 
+/// Whether two dependencies are there, and the second overtakes the first: it leads to a higher class, to which the
+/// first may lead too.
 pub(crate) fn is_newest<'a>(
     gathered: &Gathered<'a>,
     owner: &OwnerRef<'_>,
@@ -28,6 +30,7 @@ pub(crate) fn is_newest<'a>(
     number != other && are_newest(gathered, owner, number, other, class, higher)
 }
 
+/// The same of numbers that differ.
 fn are_newest<'a>(
     gathered: &Gathered<'a>,
     owner: &OwnerRef<'_>,
@@ -46,6 +49,7 @@ fn are_newest<'a>(
     }
 }
 
+/// The same where the first of them is there.
 fn overtakes<'a>(
     gathered: &Gathered<'a>,
     owner: &OwnerRef<'_>,

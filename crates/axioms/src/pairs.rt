@@ -36,6 +36,7 @@ impl<'a> Pairs<'a> {
         }
     }
 
+    /// Puts a pair, unless it is there.
     pub(crate) fn put(&mut self, name: &'a str, feature: &'a str) -> Result<(), AllocError>
         ensures { OnOk result (Adds self.old self.new (λ n f. same_pair (n, f) (name.now, feature.now))) }
     {

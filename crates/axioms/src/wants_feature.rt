@@ -21,6 +21,7 @@ use lookups::dependency_at;
 use semver::Version;
 use vertices::OwnerRef;
 
+/// Whether the dependency may lead to the class, and asks for the feature by its list or an entry of the root.
 pub(crate) fn is_list(
     gathered: &Gathered<'_>,
     owner: &OwnerRef<'_>,
@@ -65,6 +66,7 @@ fn root_asks_at(
     }
 }
 
+/// Whether an entry of the root asks the dependency for the feature: an ask of a version is a vertex of its own.
 fn root_asks_for(
     gathered: &Gathered<'_>,
     owner: &OwnerRef<'_>,
@@ -86,6 +88,7 @@ fn root_asks(gathered: &Gathered<'_>, name: &PackageName, feature: &FeatureName)
     gathered.root_asks.has(name.as_str(), feature.as_str())
 }
 
+/// Whether the dependency may lead to the class, and an entry of the version asks it for the feature.
 pub(crate) fn is_ask(
     gathered: &Gathered<'_>,
     name: &PackageName,

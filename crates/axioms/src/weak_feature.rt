@@ -17,6 +17,7 @@ use lookups::dependency_at;
 use semver::Version;
 use vertices::OwnerRef;
 
+/// Whether an entry `d?/g` of the feature names the dependency of this number, which may lead to the class.
 pub(crate) fn is_weak<'a>(
     gathered: &Gathered<'a>,
     name: &PackageName,

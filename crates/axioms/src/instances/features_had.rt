@@ -31,12 +31,12 @@ fn put_features<'a>(had: &mut BTreeSet<&'a str>, table: &'a FeatureTable) -> Res
         ((f : List ℕ) → has_text had.new.keys f ≡ (has_text had.old.keys f || has_feature table.now f)) }
 {
     'rows: for (feature, _) in table.iter() {
-        put(had, feature.as_str())?;
+        put_feature(had, feature.as_str())?;
     }
     Ok(())
 }
 
-fn put<'a>(had: &mut BTreeSet<&'a str>, feature: &'a str) -> Result<(), AllocError>
+fn put_feature<'a>(had: &mut BTreeSet<&'a str>, feature: &'a str) -> Result<(), AllocError>
     ensures { OnOk result
         ((f : List ℕ) → has_text had.new.keys f ≡ (has_text had.old.keys f || same_text f feature.now)) }
 {

@@ -74,6 +74,7 @@ fn has_others<'a>(kept: &Kept<'a>, vertex: &VertexRef<'a>, states: &StateSet<'a>
     }
 }
 
+/// Whether the states have each version of the class.
 fn has_versions(
     problem: &Problem<'_>,
     name: &PackageName,
@@ -98,6 +99,7 @@ fn has_version(states: &StateSet<'_>, version: &Version) -> bool
     states.has(&StateRef::Version(version))
 }
 
+/// Whether the states have each class to which the dependency of this number, if it is there, may lead.
 fn has_classes<'a>(
     kept: &Kept<'a>,
     owner: &OwnerRef<'a>,
@@ -113,6 +115,7 @@ fn has_classes<'a>(
     }
 }
 
+/// The same of a dependency that is there: its classes are found only where they aren't kept.
 fn has_classes_of<'a>(
     kept: &Kept<'a>,
     dependency: &'a DependencyParts,
@@ -133,6 +136,7 @@ fn all_classes_in(classes: &[Class], states: &StateSet<'_>) -> bool
     classes.iter().all(|class| has_class(states, *class))
 }
 
+/// Whether the states have the class of each version that the dependency matches.
 fn all_matched_in(
     problem: &Problem<'_>,
     dependency: &DependencyParts,

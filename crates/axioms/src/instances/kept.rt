@@ -38,6 +38,7 @@ pub(crate) enum Number {
 }
 
 impl Number {
+    /// What so many states are beside so many versions of a class.
     pub(crate) fn of(states: usize, versions: usize) -> Number {
         if versions <= FEW {
             Number::Many
@@ -246,6 +247,7 @@ impl<'a> Kept<'a> {
         }
     }
 
+    /// Keeps whether some version of the class is matched.
     fn keep_some(
         &mut self,
         owner: OwnerRef<'a>,
@@ -261,6 +263,7 @@ impl<'a> Kept<'a> {
         }
     }
 
+    /// Keeps the classes of a dependency, unless they are kept or its versions are few.
     fn put_classes(
         &mut self,
         alloc: Global,
@@ -279,6 +282,7 @@ impl<'a> Kept<'a> {
         Ok(())
     }
 
+    /// The same of a dependency that is there, unless the versions of the class are few.
     fn put_some(&mut self, class: Class, dependency: &'a DependencyParts) -> Result<(), AllocError>
         ensures { problem_of self.new ≡ problem_of self.old }
     {

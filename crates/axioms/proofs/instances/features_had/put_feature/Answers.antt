@@ -1,7 +1,7 @@
 use Rattle.std.proofs.Common.{◌∙◌, ap}
 use Rattle.features.specs.inner.Texts.{has_text}
 use Rattle.features.proofs.DraftLemmas.{has_text-insert_key}
-use Rattle.axioms.proofs.instances.features_had.put.Goals as goal
+use Rattle.axioms.proofs.instances.features_had.put_feature.Goals as goal
 
 pub returns : goal.returns
 returns c =
