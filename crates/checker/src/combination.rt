@@ -116,6 +116,7 @@ impl<'s, 'a> Claim<'s, 'a> {
         }
     }
 
+    /// The same where both have a set at the vertex.
     fn is_union_of(&self, a: usize, b: usize, said: Option<usize>) -> bool
         requires sound { IsSound self.now }
         requires a { IsMade (claim_tables self.now) self.now.names.now.sets.items a }

@@ -67,6 +67,7 @@ impl<'a> Names<'a> {
         }
     }
 
+    /// Whether two numbers stand for one vertex: equal ones do without a look.
     pub(crate) fn is_same_vertex(&self, a: usize, b: usize) -> bool
         requires a { a < length (tables_of self.now).vertices }
         requires b { b < length (tables_of self.now).vertices }
@@ -78,6 +79,7 @@ impl<'a> Names<'a> {
         self.vertex(a) == self.vertex(b)
     }
 
+    /// Whether two numbers stand for one set of states: equal ones do without a look.
     pub(crate) fn is_same_set(&self, a: usize, b: usize) -> bool
         requires a { IsMade (tables_of self.now) self.now.sets.items a }
         requires b { IsMade (tables_of self.now) self.now.sets.items b }

@@ -55,6 +55,7 @@ pub(crate) fn names_of<'a>(
 }
 
 impl<'a> Naming<'a> {
+    /// Adds what the terms of a step name.
     fn add_terms(&mut self, alloc: Global, terms: &[Term]) -> Result<(), AllocError>
         requires sound { IsNaming self.old.tables.now self.old }
         requires terms { AllByRecursion (IsOrderedTerm self.old.tables.now) terms.now }

@@ -49,6 +49,7 @@ pub(crate) fn prepare<'a>(
     }
 }
 
+/// An axiom is decided here, as that may want memory.
 fn prepare_axiom<'a>(
     alloc: Global,
     gathered: &mut Gathered<'a>,
@@ -107,6 +108,7 @@ fn terms_in<'a>(
     Ok(looked_up)
 }
 
+/// A term, as it is looked up.
 fn term_of<'a>(
     alloc: Global,
     names: &Names<'a>,

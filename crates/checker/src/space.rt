@@ -91,6 +91,7 @@ fn has_class(class: Class, a: &StateSet<'_>, b: &StateSet<'_>) -> bool
     is_in_either(a, b, &StateRef::Class(class))
 }
 
+/// Whether two sets together have each class to which a dependency may lead, found from its versions.
 fn has_matched(
     problem: &Problem<'_>,
     dependency: &DependencyParts,
@@ -123,6 +124,7 @@ fn has_matching(
         .all(|version| has_if_matched(version, requirement, a, b))
 }
 
+/// Whether two sets together have the class of a version, if the requirement matches that.
 #[tactic(auto, unfolding(axioms::specs::inner::FullTerms::has_if_matched))]
 fn has_if_matched(
     version: &Version,
