@@ -120,6 +120,7 @@ fn package_at(
     }
 }
 
+/// The package of the root, with an empty list.
 fn root_package(
     alloc: Global,
     manifest: &Manifest,
@@ -139,6 +140,7 @@ fn root_package(
     })
 }
 
+/// The package of a version that is met, with an empty list; none where no candidate has its place.
 fn met_package(
     alloc: Global,
     manifest: &Manifest,

@@ -60,6 +60,7 @@ pub fn places_led_to(
     Ok(places)
 }
 
+/// Adds where a dependency leads, if it leads anywhere.
 fn add_target(places: &mut BTreeSet<usize>, target: Option<usize>) -> Result<(), AllocError>
     ensures { OnOk result
         ((t : ℕ) → contains nat_cmp places.new t ≡ with_target target t (contains nat_cmp places.old t)) }

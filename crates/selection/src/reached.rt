@@ -52,6 +52,7 @@ fn rules(alloc: Global, content: &[Package]) -> Result<Vec<Rule>, AllocError>
     Ok(rules)
 }
 
+/// The same of one package and its list.
 fn add_rules(rules: &mut Vec<Rule>, at: usize, list: &[usize]) -> Result<(), AllocError>
     ensures { OnOk result (rules.new.items ≡ rules.old.items ++ rules_at at list.now) }
 {
