@@ -37,7 +37,8 @@ impl Id {
     }
 }
 
-/// Where an incompatibility came from.
+/// Where an incompatibility came from. A derivation has an `Origin` of its own, for whoever checks it: there each
+/// combination of a chain is a step.
 #[derive(Drop)]
 pub enum Origin {
     /// It was given, as an instance of the axiom with this number.
