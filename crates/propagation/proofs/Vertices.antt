@@ -12,7 +12,7 @@ use Rattle.terms.specs.declared.term.Relation.TheVariants.{Satisfied, Contradict
 use Rattle.incompatibilities.specs.Incompatibilities.{AllPast, IsRising, NoneFull, states_at, HoldsAt}
 use Rattle.incompatibilities.proofs.Lookups.{at_first, at_later}
 use Rattle.propagation.specs.Trails.{TrailView, no_step, set_of, space_of, step_at, step_view, steps_view}
-use Rattle.propagation.specs.declared.trail.Step.{Step}
+use Rattle.propagation.specs.declared.trail.TrailStep.{TrailStep}
 use Rattle.propagation.specs.Satisfaction.{IsOneOpen, IsQuiet, RuledOut, Sat}
 use Rattle.propagation.specs.inner.Units.{AllHold, LiesOn, Neither, OneIsOpen, relation_at, term_at}
 use Rattle.propagation.proofs.SetLemmas.{not_full_long}
@@ -212,7 +212,7 @@ pub view_at : {A B : Type 0} (f : A → B) (xs : List A) (i : ℕ) (a : A) (d : 
 view_at f xs i a d lt e = get_or-map f xs i a d lt ∙ ap f (sym e)
 
 -- a step, read
-pub step_read : {S : Type 0} (tests : S → Members) (ss : List (Step S)) (p : ℕ) (s d : Step S)
+pub step_read : {S : Type 0} (tests : S → Members) (ss : List (TrailStep S)) (p : ℕ) (s d : TrailStep S)
     → p < length (steps_view tests ss) → s ≡ get_or ss p d → step_at (steps_view tests ss) p ≡ step_view tests s
 step_read tests ss p s d lt e =
     get_or-map (step_view tests) ss p d no_step (rw length-map at lt) ∙ ap (step_view tests) (sym e)
