@@ -6,7 +6,7 @@ ghost use Rattle.search_tests.specs.inner.Meeting.{AreSmall};
 ghost use Rattle.std.specs.Prelude.{◌≤◌, IfOk, length};
 
 use crate::drawing::next;
-use crate::made_stores::{guide_of, put, written};
+use crate::made_stores::{add_axiom, guide_of, written};
 use crate::preferring::search_from_full;
 use guiding::Answer;
 use incompatibilities::{Id, Incompatibility, Store};
@@ -29,7 +29,7 @@ fn put_drawn<S: States + Drop>(
     let second = first + 1 + (random >> 12) as usize % (3 - first);
     let one = (first, u64::from(1 + (random >> 16) % 6));
     let other = (second, u64::from(1 + (random >> 20) % 6));
-    put(store, alloc, spaces, &[one, other])
+    add_axiom(store, alloc, spaces, &[one, other])
 }
 
 /// Twelve to twenty such entries.

@@ -38,7 +38,7 @@ pub(crate) fn guide_of(
 }
 
 /// Puts an axiom into a store, if its vertices rise and are there.
-pub(crate) fn put<S: States + Drop>(
+pub(crate) fn add_axiom<S: States + Drop>(
     store: &mut Store<S>,
     alloc: Global,
     spaces: &[u32],

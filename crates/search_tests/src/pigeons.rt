@@ -5,7 +5,7 @@ ghost use Rattle.search_tests.specs.inner.Universes.{AllLie};
 ghost use Rattle.search_tests.specs.inner.Meeting.{AreSmall};
 ghost use Rattle.std.specs.Prelude.{◌≤◌, IfOk};
 
-use crate::made_stores::{guide_of, put};
+use crate::made_stores::{add_axiom, guide_of};
 use crate::preferring::search_from_full;
 use guiding::Answer;
 use incompatibilities::{Id, Store};
@@ -28,7 +28,7 @@ fn part<S: States + Drop>(
 {
     'holes: for hole in 0..holes {
         let bit = 1 << (hole % 64);
-        put(store, alloc, spaces, &[(first, bit), (second, bit)])?;
+        add_axiom(store, alloc, spaces, &[(first, bit), (second, bit)])?;
     }
     Ok(())
 }

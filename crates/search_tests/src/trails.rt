@@ -11,7 +11,7 @@ use version_sets::States;
 type Bits = (usize, u64);
 
 /// A call that has to be done, or what has to be there.
-enum Step {
+enum ScriptStep {
     /// One vertex more, with so many states.
     Grow(u8),
     /// An entry of one term.
@@ -53,35 +53,35 @@ fn all_left<S: States + Drop>(trial: &Trial<S>, bits: u64) -> bool {
 }
 
 /// Whether that is what has to be there.
-fn is_there<S: States + Drop>(trial: &Trial<S>, step: &Step) -> bool {
+fn is_there<S: States + Drop>(trial: &Trial<S>, step: &ScriptStep) -> bool {
     match step {
-        Step::Left(vertex, bits) => bits_at(trial, *vertex) == *bits,
-        Step::AllLeft(bits) => all_left(trial, *bits),
-        Step::Level(level) => trial.level() == *level,
-        Step::Assigned(assigned) => trial.assigned() == *assigned,
+        ScriptStep::Left(vertex, bits) => bits_at(trial, *vertex) == *bits,
+        ScriptStep::AllLeft(bits) => all_left(trial, *bits),
+        ScriptStep::Level(level) => trial.level() == *level,
+        ScriptStep::Assigned(assigned) => trial.assigned() == *assigned,
         _ => false,
     }
 }
 
 /// Does a call; whether it was done.
-fn calls<S: States + Drop>(trial: &mut Trial<S>, step: &Step) -> Result<bool, AllocError> {
+fn calls<S: States + Drop>(trial: &mut Trial<S>, step: &ScriptStep) -> Result<bool, AllocError> {
     match step {
-        Step::Grow(universe) => {
+        ScriptStep::Grow(universe) => {
             trial.grow(u32::from(*universe))?;
             Ok(true)
         }
-        Step::Forbid(first, second) => trial.forbid(&[*first, *second]),
-        Step::Decide(vertex, state) => trial.decide(*vertex, *state),
-        Step::Rest => Ok(trial.propagate()? == Progress::Fixpoint),
+        ScriptStep::Forbid(first, second) => trial.forbid(&[*first, *second]),
+        ScriptStep::Decide(vertex, state) => trial.decide(*vertex, *state),
+        ScriptStep::Rest => Ok(trial.propagate()? == Progress::Fixpoint),
         _ => Ok(is_there(trial, step)),
     }
 }
 
 /// Whether a step comes out.
-fn takes<S: States + Drop>(trial: &mut Trial<S>, step: &Step) -> Result<bool, AllocError> {
+fn takes<S: States + Drop>(trial: &mut Trial<S>, step: &ScriptStep) -> Result<bool, AllocError> {
     match step {
-        Step::Single(vertex, bits) => trial.forbid(&[(*vertex, *bits)]),
-        Step::Cut(level) => {
+        ScriptStep::Single(vertex, bits) => trial.forbid(&[(*vertex, *bits)]),
+        ScriptStep::Cut(level) => {
             trial.cut(*level);
             Ok(true)
         }
@@ -93,7 +93,7 @@ fn takes<S: States + Drop>(trial: &mut Trial<S>, step: &Step) -> Result<bool, Al
 fn take_all<S: States + Drop>(
     rt: &impl Abort,
     trial: &mut Trial<S>,
-    script: &[Step],
+    script: &[ScriptStep],
 ) -> Result<(), AllocError> {
     'steps: for (place, step) in script.iter().enumerate() {
         assert!(rt; takes(trial, step)?, "step {place}");
@@ -102,98 +102,102 @@ fn take_all<S: States + Drop>(
 }
 
 /// Vertex 0 isn't in state 0, and 1 in it rules out two states of 1.
-static WORKED: [Step; 9] = [
-    Step::Grow(2),
-    Step::Grow(3),
-    Step::Forbid((0, 0b01), (1, 0b111)),
-    Step::Forbid((0, 0b10), (1, 0b011)),
-    Step::Rest,
-    Step::Left(0, 0b10),
-    Step::Left(1, 0b100),
-    Step::Assigned(2),
-    Step::Level(0),
+static WORKED: [ScriptStep; 9] = [
+    ScriptStep::Grow(2),
+    ScriptStep::Grow(3),
+    ScriptStep::Forbid((0, 0b01), (1, 0b111)),
+    ScriptStep::Forbid((0, 0b10), (1, 0b011)),
+    ScriptStep::Rest,
+    ScriptStep::Left(0, 0b10),
+    ScriptStep::Left(1, 0b100),
+    ScriptStep::Assigned(2),
+    ScriptStep::Level(0),
 ];
 
 /// The same store, with a decision that is cut.
-static DECIDED: [Step; 11] = [
-    Step::Grow(2),
-    Step::Grow(3),
-    Step::Forbid((0, 0b01), (1, 0b111)),
-    Step::Forbid((0, 0b10), (1, 0b011)),
-    Step::Decide(1, 0),
-    Step::Level(1),
-    Step::Left(1, 0b001),
-    Step::Cut(0),
-    Step::Level(0),
-    Step::Left(1, 0b111),
-    Step::Assigned(1),
+static DECIDED: [ScriptStep; 11] = [
+    ScriptStep::Grow(2),
+    ScriptStep::Grow(3),
+    ScriptStep::Forbid((0, 0b01), (1, 0b111)),
+    ScriptStep::Forbid((0, 0b10), (1, 0b011)),
+    ScriptStep::Decide(1, 0),
+    ScriptStep::Level(1),
+    ScriptStep::Left(1, 0b001),
+    ScriptStep::Cut(0),
+    ScriptStep::Level(0),
+    ScriptStep::Left(1, 0b111),
+    ScriptStep::Assigned(1),
 ];
 
 /// An axiom that comes at a level and whose one open term is there at the level below too.
-static LATE: [Step; 12] = [
-    Step::Grow(2),
-    Step::Grow(2),
-    Step::Rest,
-    Step::Decide(0, 1),
-    Step::Rest,
-    Step::Single(1, 0b01),
-    Step::Rest,
-    Step::Left(1, 0b10),
-    Step::Cut(0),
-    Step::Left(1, 0b11),
-    Step::Rest,
-    Step::Left(1, 0b10),
+static LATE: [ScriptStep; 12] = [
+    ScriptStep::Grow(2),
+    ScriptStep::Grow(2),
+    ScriptStep::Rest,
+    ScriptStep::Decide(0, 1),
+    ScriptStep::Rest,
+    ScriptStep::Single(1, 0b01),
+    ScriptStep::Rest,
+    ScriptStep::Left(1, 0b10),
+    ScriptStep::Cut(0),
+    ScriptStep::Left(1, 0b11),
+    ScriptStep::Rest,
+    ScriptStep::Left(1, 0b10),
 ];
 
 /// A vertex that loses two states one after the other, of which only the second asks for something.
-static TWICE: [Step; 12] = [
-    Step::Grow(3),
-    Step::Grow(2),
-    Step::Grow(2),
-    Step::Forbid((0, 0b001), (1, 0b10)),
-    Step::Forbid((0, 0b010), (1, 0b10)),
-    Step::Forbid((0, 0b100), (2, 0b01)),
-    Step::Rest,
-    Step::Decide(1, 1),
-    Step::Rest,
-    Step::Left(0, 0b100),
-    Step::Left(2, 0b10),
-    Step::Assigned(4),
+static TWICE: [ScriptStep; 12] = [
+    ScriptStep::Grow(3),
+    ScriptStep::Grow(2),
+    ScriptStep::Grow(2),
+    ScriptStep::Forbid((0, 0b001), (1, 0b10)),
+    ScriptStep::Forbid((0, 0b010), (1, 0b10)),
+    ScriptStep::Forbid((0, 0b100), (2, 0b01)),
+    ScriptStep::Rest,
+    ScriptStep::Decide(1, 1),
+    ScriptStep::Rest,
+    ScriptStep::Left(0, 0b100),
+    ScriptStep::Left(2, 0b10),
+    ScriptStep::Assigned(4),
 ];
 
 /// Vertex 2 in state 1 asks for 1 in state 1, which isn't to be beside 0 in state 1.
-static CLASH: [Step; 7] = [
-    Step::Grow(2),
-    Step::Grow(2),
-    Step::Grow(2),
-    Step::Forbid((1, 0b01), (2, 0b10)),
-    Step::Forbid((0, 0b10), (1, 0b10)),
-    Step::Decide(0, 1),
-    Step::Decide(2, 1),
+static CLASH: [ScriptStep; 7] = [
+    ScriptStep::Grow(2),
+    ScriptStep::Grow(2),
+    ScriptStep::Grow(2),
+    ScriptStep::Forbid((1, 0b01), (2, 0b10)),
+    ScriptStep::Forbid((0, 0b10), (1, 0b10)),
+    ScriptStep::Decide(0, 1),
+    ScriptStep::Decide(2, 1),
 ];
 
 /// A vertex that may be in neither of its states.
-static NEITHER: [Step; 3] = [Step::Grow(2), Step::Single(0, 0b01), Step::Single(0, 0b10)];
+static NEITHER: [ScriptStep; 3] = [
+    ScriptStep::Grow(2),
+    ScriptStep::Single(0, 0b01),
+    ScriptStep::Single(0, 0b10),
+];
 
 /// What is asked of 1001 vertices of which one in state 1 asks for the next in state 1.
-static CHAIN: [Step; 10] = [
-    Step::AllLeft(0b11),
-    Step::Decide(0, 1),
-    Step::Rest,
-    Step::Level(1),
-    Step::Assigned(1001),
-    Step::Left(1000, 0b10),
-    Step::Cut(0),
-    Step::Level(0),
-    Step::Assigned(1001),
-    Step::AllLeft(0b11),
+static CHAIN: [ScriptStep; 10] = [
+    ScriptStep::AllLeft(0b11),
+    ScriptStep::Decide(0, 1),
+    ScriptStep::Rest,
+    ScriptStep::Level(1),
+    ScriptStep::Assigned(1001),
+    ScriptStep::Left(1000, 0b10),
+    ScriptStep::Cut(0),
+    ScriptStep::Level(0),
+    ScriptStep::Assigned(1001),
+    ScriptStep::AllLeft(0b11),
 ];
 
 /// Takes a script from the empty trail.
 fn take<S: States + Drop>(
     rt: &impl Abort,
     alloc: Global,
-    script: &[Step],
+    script: &[ScriptStep],
 ) -> Result<(), AllocError> {
     let mut trial: Trial<S> = Trial::new(alloc)?;
     take_all(rt, &mut trial, script)

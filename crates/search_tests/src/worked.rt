@@ -5,7 +5,7 @@ ghost use Rattle.search_tests.specs.inner.Universes.{AllLie};
 ghost use Rattle.search_tests.specs.inner.Meeting.{AreSmall};
 ghost use Rattle.std.specs.Prelude.{IfOk};
 
-use crate::made_stores::{guide_of, put, written};
+use crate::made_stores::{add_axiom, guide_of, written};
 use crate::preferring::{Lesson, search_from_full};
 use guiding::Answer;
 use incompatibilities::Store;
@@ -24,7 +24,7 @@ fn store_of<S: States + Drop>(
 {
     let mut store = Store::new(alloc);
     'entries: for entry in entries {
-        put(&mut store, alloc, spaces, entry)?;
+        add_axiom(&mut store, alloc, spaces, entry)?;
     }
     Ok(store)
 }
