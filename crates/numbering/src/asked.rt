@@ -6,7 +6,7 @@ ghost use Rattle.features.specs.EntryViews.{entry_view, entry_views};
 ghost use Rattle.manifest.specs.Manifests.{asked_by, root_asks};
 ghost use Rattle.numbering.specs.inner.Asked.{Asks, IsAsked, asked_so, those_asked};
 
-use crate::lists::put;
+use crate::lists::put_behind;
 use features::{Entry, FeatureName, FeatureTable, PackageName};
 use std::alloc::{AllocError, Global};
 use std::collections::HashMap;
@@ -73,6 +73,7 @@ fn by_name<'a>(
     Ok(asked)
 }
 
+/// What the entries of one feature ask for.
 fn put_row<'a>(
     alloc: Global,
     asked: &mut HashMap<&'a str, Vec<Wanted<'a>>>,
@@ -111,5 +112,5 @@ fn put_asked<'a>(
 ) -> Result<(), AllocError>
     ensures { OnOk result (Asks asked.old ((called.entry.now, feature.entry.now) ∷ []) asked.new) }
 {
-    put(alloc, asked, called.as_str(), Wanted { feature })
+    put_behind(alloc, asked, called.as_str(), Wanted { feature })
 }

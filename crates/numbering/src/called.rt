@@ -4,7 +4,7 @@ ghost use Rattle.std.specs.Prelude.{◌≡◌, IfOk, OnOk};
 ghost use Rattle.features.specs.Views.{dependency_views};
 ghost use Rattle.numbering.specs.inner.Called.{IsByName, PutsCalled, called_so, numbered_from, those_views};
 
-use crate::lists::put;
+use crate::lists::put_behind;
 use features::{Dependency, DependencyParts};
 use std::alloc::{AllocError, Global};
 use std::collections::HashMap;
@@ -86,5 +86,5 @@ fn put_called<'a>(
 ) -> Result<(), AllocError>
     ensures { OnOk result (PutsCalled called.old one.entry called.new) }
 {
-    put(alloc, called, one.dependency.name.as_str(), one)
+    put_behind(alloc, called, one.dependency.name.as_str(), one)
 }

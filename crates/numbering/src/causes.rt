@@ -55,6 +55,7 @@ pub(crate) fn put_needs<'a>(
     Ok(())
 }
 
+/// The need for one of them: all of the root's are needed, and those of a version that aren't optional.
 fn put_need<'a>(
     causes: &mut Vec<Cause<'a>>,
     owner: OwnerRef<'a>,
@@ -90,6 +91,7 @@ pub(crate) fn put_feature<'a>(
     Ok(())
 }
 
+/// What an entry of the feature gives, by itself and with each dependency that it names.
 fn put_entry<'a>(
     alloc: Global,
     known: &KnownProblem<'a>,
@@ -212,6 +214,7 @@ fn put_those<'a>(
     Ok(())
 }
 
+/// What an entry gives with one dependency: nothing unless that is called as the entry says.
 fn put_on<'a>(
     alloc: Global,
     known: &KnownProblem<'a>,
@@ -301,6 +304,7 @@ fn put_weak<'a>(
     put_weak_in(causes, own, asked, number, dependency, classes.as_slice())
 }
 
+/// The same in each of these classes, to which the dependency may lead.
 fn put_weak_in<'a>(
     causes: &mut Vec<Cause<'a>>,
     own: Own<'a>,

@@ -114,6 +114,7 @@ impl<'a> Indexed<'a> {
         }
     }
 
+    /// Looks once through all entries of the root.
     fn put_asked(&mut self, alloc: Global) -> Result<(), AllocError>
         ensures { problem_indexed self.new ≡ problem_indexed self.old }
     {
@@ -125,6 +126,7 @@ impl<'a> Indexed<'a> {
         Ok(())
     }
 
+    /// The dependencies of an owner by their packages, where they are many or two are on one package.
     fn keep_dependencies(&mut self, alloc: Global, owner: OwnerRef<'a>) -> Result<(), AllocError>
         ensures { problem_indexed self.new ≡ problem_indexed self.old }
     {

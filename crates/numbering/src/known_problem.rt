@@ -12,7 +12,8 @@ use lookups::Problem;
 use manifest::Manifest;
 
 /// The manifest and the loaded index, the name of the feature `default`, which a dependency may ask for without
-/// spelling it, and what is known of what requirements match there.
+/// spelling it, and what is known of what requirements match there. A look-up that needs nothing of this takes a
+/// `Problem` of `lookups`, which `held` gives.
 #[derive(Drop)]
 pub struct KnownProblem<'a> {
     pub manifest: &'a Manifest,

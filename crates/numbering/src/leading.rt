@@ -87,6 +87,7 @@ pub(crate) fn put_asked_lead<'a>(
     }
 }
 
+/// What it gives by itself, and with those that were asked for before.
 fn put_asked_leading<'a>(
     alloc: Global,
     known: &KnownProblem<'a>,
@@ -155,6 +156,7 @@ fn put_own_list<'a>(
     put_default(known, causes, lead, dependency)
 }
 
+/// The feature `default`, where it asks for default features.
 fn put_default<'a>(
     known: &KnownProblem<'a>,
     causes: &mut Vec<Cause<'a>>,
@@ -172,6 +174,7 @@ fn put_default<'a>(
     Ok(())
 }
 
+/// The features that it lists.
 fn put_listed<'a>(
     causes: &mut Vec<Cause<'a>>,
     lead: Lead<'a>,
@@ -225,6 +228,7 @@ fn put_root_asked<'a>(
     }
 }
 
+/// Those that are found under this name.
 fn put_asked<'a>(
     causes: &mut Vec<Cause<'a>>,
     lead: Lead<'a>,

@@ -7,7 +7,7 @@ use std::alloc::{AllocError, Global};
 use std::collections::HashMap;
 
 /// Puts a value behind those of its text.
-pub(crate) fn put<'a, T: Drop>(
+pub(crate) fn put_behind<'a, T: Drop>(
     alloc: Global,
     lists: &mut HashMap<&'a str, Vec<T>>,
     text: &'a str,

@@ -203,6 +203,7 @@ impl<'a> Matched<'a> {
         Ok(())
     }
 
+    /// Matches the requirement of a dependency, unless what it matches is kept.
     fn keep(&mut self, alloc: Global, dependency: &'a DependencyParts) -> Result<(), AllocError>
         ensures { problem_of self.new ≡ problem_of self.old }
     {

@@ -41,6 +41,7 @@ pub(crate) fn put_newest<'a>(
     put_newest_among(alloc, known, causes, lead, dependency, all)
 }
 
+/// The same, where all dependencies of the owner are given.
 fn put_newest_among<'a>(
     alloc: Global,
     known: &KnownProblem<'a>,
@@ -81,6 +82,7 @@ fn put_newest_with<'a>(
     put_newest_in(known, causes, lead, dependency, number, classes.as_slice())
 }
 
+/// What it gives with another one in each of these classes, to which that may lead.
 fn put_newest_in<'a>(
     known: &KnownProblem<'a>,
     causes: &mut Vec<Cause<'a>>,
@@ -152,6 +154,7 @@ pub(crate) fn put_both<'a>(
     Ok(())
 }
 
+/// The same with one of them.
 fn put_both_with<'a>(
     known: &KnownProblem<'a>,
     causes: &mut Vec<Cause<'a>>,
@@ -200,6 +203,7 @@ fn is_newest<'a>(known: &KnownProblem<'a>, lead: Lead<'a>, number: usize, higher
     }
 }
 
+/// The same where the first of them is there.
 fn is_overtaken_by<'a>(
     known: &KnownProblem<'a>,
     lead: Lead<'a>,
@@ -217,6 +221,7 @@ fn is_overtaken_by<'a>(
     }
 }
 
+/// The same where both are there.
 fn is_overtaken(
     known: &KnownProblem<'_>,
     class: Class,

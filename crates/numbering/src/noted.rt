@@ -53,6 +53,7 @@ impl<'a> Listed<'a> {
         }
     }
 
+    /// What is listed for an owner, a package and a class.
     fn those(&self, owner: OwnerRef<'a>, name: &'a PackageName, class: Class) -> &[(usize, Class)]
         ensures { noted_views result.now
             ≡ listed_at self.now (owner_ref_view owner.entry) name.entry.now (class_view class) }
@@ -83,6 +84,7 @@ impl<'a> Listed<'a> {
         Ok(())
     }
 
+    /// Adds those of a class, if it is higher than the other.
     fn put_if_above(
         &self,
         found: &mut Vec<(usize, Class)>,
@@ -120,6 +122,7 @@ impl<'a> Listed<'a> {
         Ok(())
     }
 
+    /// Lists a dependency for a class, if that is higher than its own.
     fn list_if_above(
         &mut self,
         alloc: Global,
@@ -189,6 +192,7 @@ impl<'a> Noted<'a> {
         }
     }
 
+    /// Notes a dependency with the class that its state is; any other state says nothing.
     fn note_dependency(
         &mut self,
         alloc: Global,
@@ -219,6 +223,7 @@ impl<'a> Noted<'a> {
         }
     }
 
+    /// Notes a dependency for its class and for each higher one that it may lead to, if others are on its package.
     fn note_lead(
         &mut self,
         alloc: Global,

@@ -6,7 +6,7 @@ ghost use Rattle.numbering.specs.inner.Called.{numbered_from, those_views};
 ghost use Rattle.numbering.specs.inner.OnPackage.{IsByPackage, PutsOn, on_package};
 
 use crate::called::Numbered;
-use crate::lists::put;
+use crate::lists::put_behind;
 use features::Dependency;
 use std::alloc::{AllocError, Global};
 use std::collections::HashMap;
@@ -81,5 +81,5 @@ fn put_on<'a>(
 ) -> Result<(), AllocError>
     ensures { OnOk result (PutsOn on.old one.entry on.new) }
 {
-    put(alloc, on, one.dependency.real_name.as_str(), one)
+    put_behind(alloc, on, one.dependency.real_name.as_str(), one)
 }

@@ -135,6 +135,7 @@ fn instances<'a, S: States + Drop>(
     Ok(given)
 }
 
+/// The instance of one cause; its vertices get numbers where they have none.
 fn put_instance<'a, S: States + Drop>(
     alloc: Global,
     known: &KnownProblem<'a>,

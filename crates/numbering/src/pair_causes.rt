@@ -45,6 +45,7 @@ pub fn causes_at<'a>(
     each_once(alloc, causes)
 }
 
+/// What a vertex gives in a state: of absent ones the root alone gives something.
 fn put_causes<'a>(
     alloc: Global,
     known: &KnownProblem<'a>,
@@ -87,6 +88,7 @@ pub(crate) fn causes_asked<'a>(
     each_once(alloc, causes)
 }
 
+/// What a vertex gives in a state, a dependency with those alone that were asked for before.
 fn put_asked_causes<'a>(
     alloc: Global,
     known: &KnownProblem<'a>,
@@ -191,6 +193,7 @@ fn put_asks<'a>(
     put_asks_in(causes, name, version, number, feature, classes.as_slice())
 }
 
+/// What it gives in each of these classes.
 fn put_asks_in<'a>(
     causes: &mut Vec<Cause<'a>>,
     name: &'a PackageName,

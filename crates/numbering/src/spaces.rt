@@ -53,6 +53,7 @@ pub fn space_at(
     }
 }
 
+/// The same, by the kind of the vertex.
 fn states_counted(
     alloc: Global,
     known: &KnownProblem<'_>,

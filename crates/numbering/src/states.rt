@@ -82,6 +82,7 @@ fn present_at<'a>(number: usize) -> StateRef<'a>
     }
 }
 
+/// The state of this number: absent, or one of these versions.
 fn version_at(versions: &[Version], number: usize) -> StateRef<'_>
     ensures { state_ref_view result
         ≡ unwrap_or (slice_get (absent ∷ map (λ v. version (parts_of v)) versions.entry.now) number) absent }
@@ -95,6 +96,7 @@ fn version_at(versions: &[Version], number: usize) -> StateRef<'_>
     }
 }
 
+/// The state of this number: absent, or one of these classes.
 fn class_at<'a>(classes: &[Class], number: usize) -> StateRef<'a>
     ensures { state_ref_view result
         ≡ unwrap_or (slice_get (absent ∷ map (λ k. in_class (class_view k)) classes.now) number) absent }
@@ -151,6 +153,7 @@ fn version_states<'a>(
     Ok(states)
 }
 
+/// Absent, and these versions.
 fn with_versions<'a>(
     alloc: Global,
     versions: &'a [Version],
@@ -180,6 +183,7 @@ fn class_states<'a>(
     Ok(states)
 }
 
+/// Absent, and these classes.
 fn with_classes<'a>(alloc: Global, classes: &[Class]) -> Result<Vec<StateRef<'a>>, AllocError>
     ensures { IfOk result (λ v. state_ref_views v.items ≡ absent ∷ map (λ k. in_class (class_view k)) classes.now) }
 {

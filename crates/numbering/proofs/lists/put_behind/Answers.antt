@@ -2,7 +2,7 @@ use Rattle.std.proofs.Common.{arith}
 use Rattle.std.specs.HashMap.Entry.{map_with_value}
 use Rattle.numbering.specs.inner.Lists.{same_name}
 use Rattle.numbering.proofs.ListLaws.{pushed, same_at}
-use Rattle.numbering.proofs.lists.put.Goals as goal
+use Rattle.numbering.proofs.lists.put_behind.Goals as goal
 
 pub returns : goal.returns
 returns g c =
