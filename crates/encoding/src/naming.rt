@@ -61,6 +61,7 @@ fn put_root<'a>(
     put_rows(known, vertices, dependencies, known.manifest.features())
 }
 
+/// What the entries of all features of a table ask these dependencies for.
 fn put_rows<'a>(
     known: &KnownProblem<'a>,
     vertices: &mut Vec<VertexRef<'a>>,
@@ -76,6 +77,7 @@ fn put_rows<'a>(
     Ok(())
 }
 
+/// What the entries of one feature ask these dependencies for.
 fn put_row<'a>(
     known: &KnownProblem<'a>,
     vertices: &mut Vec<VertexRef<'a>>,
@@ -107,6 +109,7 @@ fn put_names<'a>(
     Ok(())
 }
 
+/// These versions of a package, and what each brings.
 fn put_versions<'a>(
     known: &KnownProblem<'a>,
     vertices: &mut Vec<VertexRef<'a>>,
@@ -159,6 +162,7 @@ fn put_brought<'a>(
     put_table(known, vertices, release, brings)
 }
 
+/// The features of a version, and what their entries ask for.
 fn put_table<'a>(
     known: &KnownProblem<'a>,
     vertices: &mut Vec<VertexRef<'a>>,
@@ -197,6 +201,7 @@ fn put_feature<'a>(
     )
 }
 
+/// What these entries of a feature of a version ask its dependencies for.
 fn put_entries<'a>(
     known: &KnownProblem<'a>,
     vertices: &mut Vec<VertexRef<'a>>,
@@ -214,6 +219,7 @@ fn put_entries<'a>(
     Ok(())
 }
 
+/// What one entry asks for: the asks, and the features that they are for.
 fn put_entry<'a>(
     known: &KnownProblem<'a>,
     vertices: &mut Vec<VertexRef<'a>>,
@@ -248,6 +254,7 @@ fn put_asks<'a>(
     }
 }
 
+/// The ask of each of the dependencies that are called so.
 fn put_each_ask<'a>(
     vertices: &mut Vec<VertexRef<'a>>,
     release: Release<'a>,
@@ -302,6 +309,7 @@ fn put_asked<'a>(
     }
 }
 
+/// The feature that is asked for, of the package of each dependency that is called so.
 fn put_each_asked<'a>(
     known: &KnownProblem<'a>,
     vertices: &mut Vec<VertexRef<'a>>,
@@ -353,6 +361,7 @@ fn put_dependencies<'a>(
     Ok(())
 }
 
+/// A dependency, and the features that it asks for by itself.
 fn put_dependency<'a>(
     known: &KnownProblem<'a>,
     vertices: &mut Vec<VertexRef<'a>>,
@@ -388,6 +397,7 @@ fn put_wanted<'a>(
     put_default(known, vertices, dependency)
 }
 
+/// Features of a name, in the class of each candidate.
 fn put_listed<'a>(
     known: &KnownProblem<'a>,
     vertices: &mut Vec<VertexRef<'a>>,
@@ -403,6 +413,7 @@ fn put_listed<'a>(
     Ok(())
 }
 
+/// The feature `default`, where the dependency asks for default features.
 fn put_default<'a>(
     known: &KnownProblem<'a>,
     vertices: &mut Vec<VertexRef<'a>>,
@@ -432,6 +443,7 @@ fn put_in_each<'a>(
     put_classes(vertices, name, feature, known.catalogue.versions(name))
 }
 
+/// A feature of a name, in the class of each of these versions.
 fn put_classes<'a>(
     vertices: &mut Vec<VertexRef<'a>>,
     name: &'a PackageName,

@@ -12,7 +12,7 @@ ghost use Rattle.encoding.specs.Encodings.{AreVertices};
 ghost use Rattle.encoding.specs.inner.Rows.{vertices_of};
 ghost use Rattle.encoding.specs.Views.{vertex_view};
 
-use crate::rows::{Row, borrowed, table_of};
+use crate::rows::{Row, borrowed, numbered};
 use crate::vertex::{Vertex, state_of};
 use catalogue::Catalogue;
 use features::{FeatureName, NameFault};
@@ -92,6 +92,6 @@ pub(crate) fn pair_axioms<'a, S: States + Drop>(
 {
     let known = known(alloc, manifest, catalogue, default);
     let vertices = borrowed(alloc, rows)?;
-    let mut table = table_of(alloc, vertices.as_slice())?;
+    let mut table = numbered(alloc, vertices.as_slice())?;
     axioms_at(alloc, &known, &mut table, vertex, state)
 }

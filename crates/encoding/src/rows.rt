@@ -29,12 +29,12 @@ pub(crate) fn every_row(alloc: Global, known: &KnownProblem<'_>) -> Result<Vec<R
 {
     catalogues_are_well_formed(known.manifest, known.catalogue);
     let vertices = named(alloc, known)?;
-    let table = table_of(alloc, vertices.as_slice())?;
-    rows_of(alloc, known, &table)
+    let table = numbered(alloc, vertices.as_slice())?;
+    sized_rows(alloc, known, &table)
 }
 
 /// The vertices of these by number, each where it comes first.
-pub(crate) fn table_of<'a>(
+pub(crate) fn numbered<'a>(
     alloc: Global,
     vertices: &[VertexRef<'a>],
 ) -> Result<Table<'a>, AllocError>
@@ -48,7 +48,7 @@ pub(crate) fn table_of<'a>(
 }
 
 /// The vertices of a table, in its order.
-fn rows_of(
+fn sized_rows(
     alloc: Global,
     known: &KnownProblem<'_>,
     table: &Table<'_>,
@@ -62,6 +62,7 @@ fn rows_of(
     Ok(rows)
 }
 
+/// The row of the vertex with a number, if there is one.
 fn put_row(
     alloc: Global,
     known: &KnownProblem<'_>,
@@ -78,6 +79,7 @@ fn put_row(
     }
 }
 
+/// The row of a vertex, in memory of its own.
 fn push_row(
     alloc: Global,
     known: &KnownProblem<'_>,

@@ -13,7 +13,7 @@ returns c =
     let q = problem c.args.known.now in
     let is : c.in_ok-table.table ≡ numbered [] (named q) = c.in_ok-table.ensures
     ∙ ap (numbered []) (ap vertex_views c.as_slice.ensures.value ∙ c.in_ok-vertices.ensures) in
-    IfOk-weaker c.rows_of.result (λ rows. map row_view rows.items ≡ map (sized q) c.in_ok-table.table)
+    IfOk-weaker c.sized_rows.result (λ rows. map row_view rows.items ≡ map (sized q) c.in_ok-table.table)
     (λ rows. IsEncoding q rows.items)
     (λ rows. rows_are q rows.items c.in_ok-table.table c.catalogues_are_well_formed.ensures is)
-    c.rows_of.ensures
+    c.sized_rows.ensures

@@ -5,7 +5,7 @@ use Rattle.model.proofs.Places.{some_at}
 use Rattle.numbering.specs.inner.KnownProblem.{problem}
 use Rattle.encoding.specs.inner.Rows.{row_view, sized}
 use Rattle.encoding.proofs.Pairing.{take_none, taken_next}
-use Rattle.encoding.proofs.rows.rows_of.Goals as goal
+use Rattle.encoding.proofs.rows.sized_rows.Goals as goal
 
 pub vertices-init : goal.vertices-init
 vertices-init c =

@@ -2,7 +2,7 @@ use Rattle.std.proofs.Common.{◌≡◌, ◌∙◌, ◌+◌, ◌∷◌, drop, ap
 use Rattle.std.proofs.lemmas.List.{drop_more}
 use Rattle.encoding.specs.Encodings.{numbered}
 use Rattle.encoding.specs.Views.{vertex_views}
-use Rattle.encoding.proofs.rows.table_of.Goals as goal
+use Rattle.encoding.proofs.rows.numbered.Goals as goal
 
 pub vertices-preserved : goal.vertices-preserved
 vertices-preserved c =

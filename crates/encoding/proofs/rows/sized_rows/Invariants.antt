@@ -1,7 +1,7 @@
 use Rattle.std.proofs.Common.{◌≡◌, map, take}
 use Rattle.numbering.specs.inner.KnownProblem.{problem}
 use Rattle.encoding.specs.inner.Rows.{row_view, sized}
-use Rattle.encoding.proofs.rows.rows_of.Given as goal
+use Rattle.encoding.proofs.rows.sized_rows.Given as goal
 
 -- the rows are those of the vertices so far
 abbrev pub invariant-vertices : goal.invariant-vertices
