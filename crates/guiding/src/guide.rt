@@ -157,7 +157,7 @@ impl<'a, S: States + Drop> Encoded<'a, S> {
     }
 
     /// A law, the call does nothing: the vertices have one number each, and those on the trail their own states.
-    pub fn is_kept(&self)
+    pub fn vertices_have_numbers_and_states(&self)
         ensures numbering { IsNumbering self.now.problem self.now.vertices }
         ensures spaces { map length self.now.asked
             ≡ spaces_of self.now.problem (on_trail self.now.vertices self.now.asked) }

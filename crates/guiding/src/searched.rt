@@ -53,7 +53,7 @@ pub fn search_over<'a, S: States + Drop>(
     let mut trail = Trail::new(alloc, &[])?;
     let mut guide = Encoded::begin(alloc, known, follows, &mut trail, &mut store)?;
     let found = search(alloc, &mut guide, &mut trail, &mut store)?;
-    guide.is_kept();
+    guide.vertices_have_numbers_and_states();
     Ok(Searched {
         found,
         guide,

@@ -28,8 +28,9 @@ returns-clause-searched g c =
     searched_of (problem c.args.known) c.args.follows c.in_ok-guide.guide c.search.new.guide
     (trail_view tests c.begin.new.trail) (trail_view tests c.search.new.trail)
     (entries_view tests c.begin.new.store) (entries_view tests c.search.new.store) c.in_ok-found.found.answer
-    c.in_ok-guide.ensures end.keeps c.is_kept.ensures.numbering c.is_kept.ensures.spaces end.spaces end.trail end.ended
-    end.given end.stored end.follows end.selects
+    c.in_ok-guide.ensures end.keeps c.vertices_have_numbers_and_states.ensures.numbering
+    c.vertices_have_numbers_and_states.ensures.spaces end.spaces end.trail end.ended end.given end.stored end.follows
+    end.selects
 
 pub returns-clause-counted : goal.returns-clause-counted
 returns-clause-counted g c =
