@@ -53,7 +53,7 @@ impl<'a> Spaces<'a> {
     }
 
     /// Lists a vertex and its states.
-    fn put(
+    fn list_vertex(
         &mut self,
         alloc: Global,
         known: &KnownProblem<'a>,
@@ -111,7 +111,7 @@ impl<'a> Spaces<'a> {
             return Ok(());
         }
         match table.vertex(number) {
-            Some(vertex) => self.put(alloc, known, table, steps, number, vertex),
+            Some(vertex) => self.list_vertex(alloc, known, table, steps, number, vertex),
             None => Ok(()),
         }
     }

@@ -4,7 +4,7 @@ use Rattle.model.specs.Vertices.{Vertex, space}
 use Rattle.vertices.specs.inner.RefViews.{state_ref_views, vertex_ref_view}
 use Rattle.numbering.specs.inner.KnownProblem.{problem}
 use Rattle.solver.proofs.Listed.{kept_listed, one_more, put_listed}
-use Rattle.solver.proofs.spaces.Spaces.put.Goals as goal
+use Rattle.solver.proofs.spaces.Spaces.list_vertex.Goals as goal
 
 pub returns-clause-listed : goal.returns-clause-listed
 returns-clause-listed c =
