@@ -102,13 +102,13 @@ fn those<'a>(
 {
     let mut found = Vec::new(alloc);
     'packages: for locked in packages.iter() {
-        put(&mut found, locked, others, had)?;
+        push_if_one(&mut found, locked, others, had)?;
     }
     Ok(found)
 }
 
 /// Adds a package, if it is one of those.
-pub(crate) fn put<'a>(
+pub(crate) fn push_if_one<'a>(
     found: &mut Vec<&'a Package>,
     locked: &'a Package,
     others: Option<&LockContent>,

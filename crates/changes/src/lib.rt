@@ -30,5 +30,5 @@ pub use on_ways::dependencies_to;
 pub use printing::{Line, ToldLine, is_yanked, named, tell_changes, told_lines};
 pub use relisting::Relisting;
 pub use skips::{REASONS, meaning, tell_skips};
-pub use steps::{Step, dependencies_between, steps_of, tell_steps};
+pub use steps::{WayStep, dependencies_between, steps_of, tell_steps};
 pub use ways::{Why, reason_for};

@@ -65,6 +65,7 @@ fn listed_pairs(alloc: Global, packages: &[Package]) -> Result<Vec<(usize, usize
     Ok(pairs)
 }
 
+/// A pair for each place that a package lists.
 fn push_pairs(
     pairs: &mut Vec<(usize, usize)>,
     from: usize,

@@ -100,6 +100,7 @@ pub fn told_lines<'a>(
     Ok(told)
 }
 
+/// A line and what is newer, unless the package itself needs a newer Rust: then that is told.
 fn told_line<'a>(
     catalogue: &'a Catalogue,
     direct: &[&Package],
@@ -234,6 +235,7 @@ fn push_relisting(text: &mut String, relisting: Relisting<'_>) -> Result<(), All
     writeln!(text, "   Relisting {name} v{version} {word} {listed} v{of}")
 }
 
+/// How many packages stayed that have a newer version, which `--all` tells one by one.
 fn push_behind(text: &mut String, behind: usize) -> Result<(), AllocError> {
     match behind {
         0 => Ok(()),

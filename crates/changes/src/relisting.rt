@@ -4,7 +4,7 @@
 //! locks have is looked at: then lists that change are told where no package does, and an update isn't told of each
 //! package that depends on it.
 
-use crate::changing::put;
+use crate::changing::push_if_one;
 use lockfile::{LockContent, Package, package_order};
 use std::alloc::{AllocError, Global};
 
@@ -83,7 +83,7 @@ fn shared_list<'a>(
     let mut shared = Vec::new(alloc);
     for place in package.list.iter() {
         if let Some(listed) = packages.get(*place) {
-            put(&mut shared, listed, Some(others), true)?;
+            push_if_one(&mut shared, listed, Some(others), true)?;
         }
     }
     Ok(shared)

@@ -30,6 +30,7 @@ pub fn tell_skips(alloc: Global, skips: &[Skip], all: bool) -> Result<String, Al
     Ok(text)
 }
 
+/// How many lines are skipped for one reason, and each of them if all are told.
 fn push_reason(
     text: &mut String,
     skips: &[Skip],

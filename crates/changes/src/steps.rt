@@ -10,7 +10,7 @@ use std::fmt;
 
 /// A step of a way.
 #[derive(Clone, Copy)]
-pub struct Step<'a> {
+pub struct WayStep<'a> {
     pub owner: &'a Package,
     /// The first dependency of the owner that the next package fits, if there is one.
     pub dependency: Option<&'a Dependency>,
@@ -18,7 +18,7 @@ pub struct Step<'a> {
 }
 
 /// A line for each step, with the requirement that the one package has for the other.
-pub fn tell_steps(alloc: Global, steps: &[Step<'_>]) -> Result<String, AllocError> {
+pub fn tell_steps(alloc: Global, steps: &[WayStep<'_>]) -> Result<String, AllocError> {
     let mut text = String::new(alloc);
     for step in steps.iter() {
         push_step(&mut text, *step)?;
@@ -34,7 +34,7 @@ pub fn steps_of<'a>(
     catalogue: &'a Catalogue,
     content: &'a LockContent,
     places: &[usize],
-) -> Result<Vec<Step<'a>>, AllocError> {
+) -> Result<Vec<WayStep<'a>>, AllocError> {
     let mut steps = Vec::new(alloc);
     let packages = content.packages();
     let mut dependencies = manifest.dependencies();
@@ -58,7 +58,7 @@ pub fn dependencies_between<'a>(
     content: &'a LockContent,
     pairs: &[(usize, usize)],
     all: bool,
-) -> Result<Vec<Step<'a>>, AllocError> {
+) -> Result<Vec<WayStep<'a>>, AllocError> {
     let mut steps = Vec::new(alloc);
     let packages = content.packages();
     for (owner, target) in pairs.iter() {
@@ -79,7 +79,7 @@ pub fn dependencies_between<'a>(
 
 /// Puts the steps of all but the first of the dependencies that a package fits.
 fn push_others<'a>(
-    steps: &mut Vec<Step<'a>>,
+    steps: &mut Vec<WayStep<'a>>,
     owner: &'a Package,
     dependencies: &'a [Dependency],
     target: &'a Package,
@@ -89,7 +89,7 @@ fn push_others<'a>(
         .filter(|one| may_mean(one, target))
         .skip(1)
     {
-        steps.push(Step {
+        steps.push(WayStep {
             owner,
             dependency: Some(dependency),
             target,
@@ -98,12 +98,13 @@ fn push_others<'a>(
     Ok(())
 }
 
+/// A step by the first dependency of the owner that the target fits.
 fn step_to<'a>(
     owner: &'a Package,
     dependencies: &'a [Dependency],
     target: &'a Package,
-) -> Step<'a> {
-    Step {
+) -> WayStep<'a> {
+    WayStep {
         owner,
         dependency: dependencies.iter().find(|one| may_mean(one, target)),
         target,
@@ -119,7 +120,7 @@ fn dependencies_of<'a>(catalogue: &'a Catalogue, package: &Package) -> &'a [Depe
 }
 
 /// `a 1.0.0 needs b ^1 with feature f: b 1.2.0`.
-fn push_step(text: &mut String, step: Step<'_>) -> Result<(), AllocError> {
+fn push_step(text: &mut String, step: WayStep<'_>) -> Result<(), AllocError> {
     let (from, to) = (Named(step.owner), Named(step.target));
     let need = Need(step.dependency);
     writeln!(text, "{from} {need}: {to}")

@@ -1,7 +1,7 @@
 //! What Cargo refuses of a lock, as it is told: to programs in a sentence, to people with what leads to it.
 
 use catalogue::Catalogue;
-use changes::{Step, Why, dependencies_between, reason_for};
+use changes::{WayStep, Why, dependencies_between, reason_for};
 use lockfile::{LockContent, Package};
 use manifest::Manifest;
 use std::alloc::{AllocError, Global};
@@ -214,7 +214,7 @@ fn joint(place: usize, count: usize) -> &'static str {
 }
 
 /// `a 1.0.0 needs b ^1`; the root, which has no source, without its version.
-fn push_need(text: &mut String, step: Step<'_>) -> Result<(), AllocError> {
+fn push_need(text: &mut String, step: WayStep<'_>) -> Result<(), AllocError> {
     let Package { name, version, .. } = step.owner;
     write!(text, "{name}")?;
     if step.owner.source().is_some() {

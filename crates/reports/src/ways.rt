@@ -8,7 +8,7 @@ ghost use Rattle.model.specs.Content.{packages_if};
 use crate::reporting::{Inputs, loaded};
 use crate::wanted::Wanted;
 use catalogue::{Catalogue, LoadFault};
-use changes::{Step, Why, dependencies_between, dependencies_to, reason_for, steps_of};
+use changes::{WayStep, Why, dependencies_between, dependencies_to, reason_for, steps_of};
 use index_reader::Folder;
 use lockfile::LockContent;
 use manifest::Manifest;
@@ -39,7 +39,7 @@ pub struct Way<'a> {
 
 impl Way<'_> {
     /// Its steps; of the root there is none.
-    pub fn steps(&self, alloc: Global) -> Result<Vec<Step<'_>>, AllocError> {
+    pub fn steps(&self, alloc: Global) -> Result<Vec<WayStep<'_>>, AllocError> {
         steps_of(
             alloc,
             self.manifest,
@@ -50,7 +50,7 @@ impl Way<'_> {
     }
 
     /// Each dependency on any way there.
-    pub fn all_steps(&self, alloc: Global) -> Result<Vec<Step<'_>>, AllocError> {
+    pub fn all_steps(&self, alloc: Global) -> Result<Vec<WayStep<'_>>, AllocError> {
         let Wanted { name, .. } = self.wanted;
         let version = self.wanted.version();
         let pairs = dependencies_to(alloc, self.manifest, self.lock, name, version)?;

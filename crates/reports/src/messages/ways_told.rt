@@ -2,12 +2,13 @@
 
 use crate::messages::message::{Message, PackageId, Step, push_message};
 use crate::messages::shown::Shown;
+use changes::WayStep;
 use features::{Dependency, FeatureName};
 use lockfile::Package;
 use std::alloc::{AllocError, Global};
 
 /// The message of a way, by its steps.
-pub fn way(alloc: Global, steps: &[changes::Step<'_>]) -> Result<String, AllocError> {
+pub fn way(alloc: Global, steps: &[WayStep<'_>]) -> Result<String, AllocError> {
     let mut told = Vec::new(alloc);
     for step in steps.iter() {
         told.push(step_of(alloc, *step)?)?;
@@ -18,7 +19,7 @@ pub fn way(alloc: Global, steps: &[changes::Step<'_>]) -> Result<String, AllocEr
 }
 
 /// A message for each of some dependencies.
-pub fn dependencies(alloc: Global, steps: &[changes::Step<'_>]) -> Result<String, AllocError> {
+pub fn dependencies(alloc: Global, steps: &[WayStep<'_>]) -> Result<String, AllocError> {
     let mut text = String::new(alloc);
     for step in steps.iter() {
         let message = Message::Dependency(step_of(alloc, *step)?);
@@ -27,7 +28,7 @@ pub fn dependencies(alloc: Global, steps: &[changes::Step<'_>]) -> Result<String
     Ok(text)
 }
 
-fn step_of<'a>(alloc: Global, step: changes::Step<'a>) -> Result<Step<'a>, AllocError> {
+fn step_of<'a>(alloc: Global, step: WayStep<'a>) -> Result<Step<'a>, AllocError> {
     let (from, to) = (id_of(step.owner), id_of(step.target));
     let Some(dependency) = step.dependency else {
         return Ok(Step {

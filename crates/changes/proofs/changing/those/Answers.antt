@@ -19,7 +19,7 @@ packages-preserved c =
     let here : drop i xs ≡ p ∷ left =
     drop_more xs i p c.packages-test.true ∙ ap (λ y. y ∷ left) (sym c.locked-item.is) in
     let so_far = lent_views c.packages.found.items in
-    ap (λ l. l ++ filter test (package_views left)) c.in_ok-put.ensures
+    ap (λ l. l ++ filter test (package_views left)) c.in_ok-push_if_one.ensures
     ∙ append_assoc so_far (filter test (package_view p ∷ [])) (filter test (package_views left))
     ∙ ap (λ l. so_far ++ l) (filter_first test (package_view p) (package_views left))
     ∙ ap (λ l. so_far ++ filter test (package_views l)) (sym here)
