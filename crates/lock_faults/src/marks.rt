@@ -4,7 +4,7 @@ ghost use Rattle.std.specs.Prelude.{◌≡◌, ◌++◌, IfOk, OnOk, map};
 ghost use Rattle.std.specs.List.{slice_split};
 ghost use Rattle.lock_faults.specs.inner.Sides.{begins, ends_line, mark_of, part_after, has_part, is_kept, line_of};
 ghost use Rattle.lock_faults.specs.inner.Sides.{side_of, side_of_lines};
-ghost use Rattle.lock_faults.specs.declared.marks.Part.TheVariants.{Both};
+ghost use Rattle.lock_faults.specs.declared.marks.MergePart.TheVariants.{Both};
 
 use std::alloc::{AllocError, Global};
 
@@ -17,7 +17,7 @@ pub(crate) enum Side {
 
 /// Where a line of a text with marks stands.
 #[derive(Clone, Copy)]
-pub(crate) enum Part {
+pub(crate) enum MergePart {
     /// Outside of the marks: both sides have it.
     Both,
     /// After `<<<<<<<`: ours has it.
@@ -57,7 +57,7 @@ fn side_of_lines(alloc: Global, lines: &[&[u8]], side: Side) -> Result<Vec<u8>, 
     ensures { IfOk result (λ v. v.items ≡ side_of_lines side Both (map (λ x. x.now) lines.now)) }
 {
     let mut text = Vec::new(alloc);
-    let mut part = Part::Both;
+    let mut part = MergePart::Both;
     'lines: for line in lines.iter() {
         push_line(&mut text, line, side, part)?;
         part = part_after(line, part);
@@ -66,7 +66,7 @@ fn side_of_lines(alloc: Global, lines: &[&[u8]], side: Side) -> Result<Vec<u8>, 
 }
 
 /// Adds a line with its end, if a side has it.
-fn push_line(text: &mut Vec<u8>, line: &[u8], side: Side, part: Part) -> Result<(), AllocError>
+fn push_line(text: &mut Vec<u8>, line: &[u8], side: Side, part: MergePart) -> Result<(), AllocError>
     ensures { OnOk result (text.new.items ≡ text.old.items ++ line_of side part line.now) }
 {
     if is_kept(line, side, part) {
@@ -77,7 +77,7 @@ fn push_line(text: &mut Vec<u8>, line: &[u8], side: Side, part: Part) -> Result<
 }
 
 /// Whether a side has a line, which no mark is.
-fn is_kept(line: &[u8], side: Side, part: Part) -> bool
+fn is_kept(line: &[u8], side: Side, part: MergePart) -> bool
     ensures { result ≡ is_kept side part line.now }
 {
     match mark_of(line) {
@@ -86,19 +86,19 @@ fn is_kept(line: &[u8], side: Side, part: Part) -> bool
     }
 }
 
-fn has_part(side: Side, part: Part) -> bool
+fn has_part(side: Side, part: MergePart) -> bool
     ensures { result ≡ has_part side part }
 {
     match part {
-        Part::Both => true,
-        Part::First => matches!(side, Side::Ours),
-        Part::Base => false,
-        Part::Second => matches!(side, Side::Theirs),
+        MergePart::Both => true,
+        MergePart::First => matches!(side, Side::Ours),
+        MergePart::Base => false,
+        MergePart::Second => matches!(side, Side::Theirs),
     }
 }
 
 /// The part that the line after this one stands in.
-fn part_after(line: &[u8], part: Part) -> Part
+fn part_after(line: &[u8], part: MergePart) -> MergePart
     ensures { result ≡ part_after line.now part }
 {
     match mark_of(line) {
@@ -108,17 +108,17 @@ fn part_after(line: &[u8], part: Part) -> Part
 }
 
 /// The part that begins after a line, if that is a mark.
-fn mark_of(line: &[u8]) -> Option<Part>
+fn mark_of(line: &[u8]) -> Option<MergePart>
     ensures { result ≡ mark_of line.now }
 {
     if begins(line, "<<<<<<<") {
-        Some(Part::First)
+        Some(MergePart::First)
     } else if begins(line, "|||||||") {
-        Some(Part::Base)
+        Some(MergePart::Base)
     } else if begins(line, "=======") {
-        Some(Part::Second)
+        Some(MergePart::Second)
     } else if begins(line, ">>>>>>>") {
-        Some(Part::Both)
+        Some(MergePart::Both)
     } else {
         None
     }

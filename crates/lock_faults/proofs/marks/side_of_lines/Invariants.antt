@@ -1,6 +1,6 @@
 use Rattle.std.proofs.Common.{◌≡◌, ◌++◌, drop, map}
 use Rattle.lock_faults.specs.inner.Sides.{side_of_lines}
-use Rattle.lock_faults.specs.declared.marks.Part.TheVariants.{Both}
+use Rattle.lock_faults.specs.declared.marks.MergePart.TheVariants.{Both}
 use Rattle.lock_faults.proofs.marks.side_of_lines.Given as goal
 
 -- what was added so far, with what the side has of the lines that are left, is what it has of all
