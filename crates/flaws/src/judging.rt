@@ -69,13 +69,13 @@ fn flawed_in(
     let mut found = Vec::new(alloc);
     'places: for at in 0..findings.content.len() {
         let flawed = flawed_at(alloc, catalogue, findings, at)?;
-        put(&mut found, flawed)?;
+        push_if_flawed(&mut found, flawed)?;
     }
     Ok(found)
 }
 
 /// Adds what is wrong with a package, if something is.
-fn put(found: &mut Vec<Flawed>, flawed: Flawed) -> Result<(), AllocError>
+fn push_if_flawed(found: &mut Vec<Flawed>, flawed: Flawed) -> Result<(), AllocError>
     ensures { OnOk result (found.new.items ≡ found.old.items ++ (if is_flawless flawed then [] else flawed ∷ [])) }
 {
     if !is_flawless(&flawed) {

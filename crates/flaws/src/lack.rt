@@ -134,6 +134,7 @@ fn lack_in(requirement: &VersionReq, file: Option<&[Record]>) -> Lack
     }
 }
 
+/// Why a requirement matches none of these records: the first reason that holds.
 fn lack_among(requirement: &VersionReq, records: &[Record]) -> Lack
     ensures { result ≡ lack_among (requirement_view requirement.now) (record_views records.now) }
 {

@@ -97,6 +97,7 @@ pub fn note_lack<F: Folder>(
     push_note(text, dependency, reason).map_err(out_of_memory)
 }
 
+/// `note: nothing fits a ^1: ` and why.
 fn push_note(
     text: &mut String,
     dependency: &DependencyParts,

@@ -35,6 +35,7 @@ pub(crate) fn why_not(catalogue: &Catalogue, locked: &Package, is_root: bool) ->
     }
 }
 
+/// Its source is looked at first, as the index says nothing of another one.
 fn why_none(catalogue: &Catalogue, locked: &Package) -> Option<NoCandidate>
     ensures { result ≡ why_none catalogue.now (package_view locked.now) }
 {

@@ -50,6 +50,7 @@ fn small_letters(alloc: Global, name: &PackageName) -> Result<Vec<char>, AllocEr
     Ok(letters)
 }
 
+/// The name in small letters, then with `_` for each `-`, then with `-` for each `_`.
 fn otherwise_spelt<F: Folder>(
     alloc: Global,
     folder: &mut F,

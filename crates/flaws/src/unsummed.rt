@@ -25,6 +25,7 @@ fn copies_without(alloc: Global, packages: &[Package]) -> Result<Vec<Package>, A
     Ok(copies)
 }
 
+/// A package without its checksum.
 fn copy_without(alloc: Global, locked: &Package) -> Result<Package, AllocError>
     ensures { IfOk result (λ p. package_view p ≡ without_checksum (package_view locked.now)) }
 {

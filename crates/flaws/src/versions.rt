@@ -65,6 +65,7 @@ fn push_other_source(
     writeln!(text, "{package}: its source is {source}, and not {own}")
 }
 
+/// Says of a lock of format 1 where its checksums are.
 fn push_no_checksum(
     text: &mut String,
     package: &Package,
@@ -80,6 +81,7 @@ fn push_no_checksum(
     text.push_str("\n")
 }
 
+/// Has both checksums, that of the lock and that of the index.
 fn push_other_checksum(
     text: &mut String,
     registry: Registry<'_>,

@@ -15,7 +15,8 @@ pub places-preserved : goal.places-preserved
 places-preserved c =
     λ m found. one_more m c.args.catalogue.now (content_in c.args.findings.now) c.places.at c.places.found.items
     c.in_ok-flawed.flawed (c.places.invariant m found)
-    (c.in_ok-flawed.ensures.flaws m found) c.in_ok-flawed.ensures.place c.put.new.found.items c.in_ok-put.ensures
+    (c.in_ok-flawed.ensures.flaws m found) c.in_ok-flawed.ensures.place c.push_if_flawed.new.found.items
+    c.in_ok-push_if_flawed.ensures
 
 pub returns : goal.returns
 returns c =
