@@ -9,9 +9,9 @@ use lookups::{Problem, StateSet, Term, dependency_at};
 use std::alloc::{AllocError, Global};
 use vertices::{OwnerRef, StateRef, VertexRef};
 
-/// The part that a term has in a clause.
+/// What a term is in a clause.
 #[derive(Clone, Copy, Debug, PartialEq, Eq)]
-enum Part {
+enum Role {
     /// That the root is there needs no word.
     Silent,
     /// What is taken to hold.
@@ -22,20 +22,21 @@ enum Part {
     Needed,
 }
 
-fn part_of(terms: &[Term<'_>], term: &Term<'_>) -> Part {
+/// What a term is among these: a feature is joined to versions of its package, where these are held.
+fn role_of(terms: &[Term<'_>], term: &Term<'_>) -> Role {
     let absent = is_absent(term);
     match &term.vertex {
-        VertexRef::Root => { if absent { Part::Held } else { Part::Silent } }
+        VertexRef::Root => { if absent { Role::Held } else { Role::Silent } }
         VertexRef::Feature(name, class, _) => {
             if absent {
-                Part::Needed
+                Role::Needed
             } else if is_held(terms, name, *class) {
-                Part::Joined
+                Role::Joined
             } else {
-                Part::Held
+                Role::Held
             }
         }
-        _ => { if absent { Part::Needed } else { Part::Held } }
+        _ => { if absent { Role::Needed } else { Role::Held } }
     }
 }
 
@@ -56,10 +57,10 @@ fn holds(term: &Term<'_>, name: &PackageName, class: Class) -> bool {
     }
 }
 
-fn count(terms: &[Term<'_>], part: Part) -> usize {
+fn count(terms: &[Term<'_>], role: Role) -> usize {
     terms
         .iter()
-        .filter(|term| part_of(terms, term) == part)
+        .filter(|term| role_of(terms, term) == role)
         .count()
 }
 
@@ -67,7 +68,7 @@ fn count(terms: &[Term<'_>], part: Part) -> usize {
 pub(crate) fn is_plain(terms: &[Term<'_>]) -> bool {
     terms.iter().all(|term| match &term.vertex {
         VertexRef::Root | VertexRef::Package(..) => true,
-        VertexRef::Feature(..) => part_of(terms, term) == Part::Joined,
+        VertexRef::Feature(..) => role_of(terms, term) == Role::Joined,
         VertexRef::Dependency(..) | VertexRef::Ask(..) => false,
     })
 }
@@ -79,14 +80,14 @@ pub(crate) fn push_claim(
     problem: &Problem<'_>,
     terms: &[Term<'_>],
 ) -> Result<(), AllocError> {
-    let held = count(terms, Part::Held);
-    let needed = count(terms, Part::Needed);
+    let held = count(terms, Role::Held);
+    let needed = count(terms, Role::Needed);
     if needed == 0 {
         return push_excluded(alloc, text, problem, terms, held);
     }
-    push_nouns(alloc, text, problem, terms, Part::Held, 0)?;
+    push_nouns(alloc, text, problem, terms, Role::Held, 0)?;
     text.push_str(verb(held))?;
-    push_nouns(alloc, text, problem, terms, Part::Needed, 0)?;
+    push_nouns(alloc, text, problem, terms, Role::Needed, 0)?;
     if held == 0 {
         text.push_str(" has to be used")?;
     }
@@ -108,11 +109,11 @@ pub(crate) fn needed_alone(
     problem: &Problem<'_>,
     terms: &[Term<'_>],
 ) -> Result<Option<String>, AllocError> {
-    if count(terms, Part::Held) > 0 || count(terms, Part::Needed) != 1 {
+    if count(terms, Role::Held) > 0 || count(terms, Role::Needed) != 1 {
         return Ok(None);
     }
     let mut text = String::new(alloc);
-    push_nouns(alloc, &mut text, problem, terms, Part::Needed, 0)?;
+    push_nouns(alloc, &mut text, problem, terms, Role::Needed, 0)?;
     // Of all versions it would have to be said that none can be used.
     if text.starts_with("some ") {
         Ok(None)
@@ -123,7 +124,7 @@ pub(crate) fn needed_alone(
 
 /// Whether a step says that there is no lock.
 pub(crate) fn is_end(terms: &[Term<'_>]) -> bool {
-    count(terms, Part::Held) == 0 && count(terms, Part::Needed) == 0
+    count(terms, Role::Held) == 0 && count(terms, Role::Needed) == 0
 }
 
 fn push_end(text: &mut String, problem: &Problem<'_>) -> Result<(), AllocError> {
@@ -149,10 +150,10 @@ fn push_excluded(
             if held > 1 {
                 text.push_str(" together with ")?;
             }
-            push_nouns(alloc, text, problem, terms, Part::Held, 1)
+            push_nouns(alloc, text, problem, terms, Role::Held, 1)
         }
         None => {
-            push_nouns(alloc, text, problem, terms, Part::Held, 0)?;
+            push_nouns(alloc, text, problem, terms, Role::Held, 0)?;
             text.push_str(" can't be used")?;
             if held > 1 {
                 text.push_str(" together")?;
@@ -168,7 +169,7 @@ fn name_of_every<'a>(
     problem: &Problem<'_>,
     terms: &[Term<'a>],
 ) -> Result<Option<&'a PackageName>, AllocError> {
-    let first = terms.iter().find(|term| part_of(terms, term) == Part::Held);
+    let first = terms.iter().find(|term| role_of(terms, term) == Role::Held);
     let Some(term) = first else {
         return Ok(None);
     };
@@ -190,24 +191,24 @@ fn has_joined(terms: &[Term<'_>], name: &PackageName, class: Class) -> bool {
         .any(|term| feature_on(term, name, class).is_some())
 }
 
-/// What the terms with a part say, one after another, without so many that come first.
+/// What the terms with a role say, one after another, without so many that come first.
 fn push_nouns(
     alloc: Global,
     text: &mut String,
     problem: &Problem<'_>,
     terms: &[Term<'_>],
-    part: Part,
+    role: Role,
     without: usize,
 ) -> Result<(), AllocError> {
-    let all = count(terms, part);
-    let word = if part == Part::Held { "and" } else { "or" };
-    let every = word_for_every(part, all);
+    let all = count(terms, role);
+    let word = if role == Role::Held { "and" } else { "or" };
+    let every = word_for_every(role, all);
     let mut place = 0usize;
     for term in terms.iter() {
-        if part_of(terms, term) == part && place < all {
+        if role_of(terms, term) == role && place < all {
             if place >= without {
                 push_before(text, place - without, all - without, word)?;
-                push_noun(alloc, text, problem, term, part == Part::Held, every)?;
+                push_noun(alloc, text, problem, term, role == Role::Held, every)?;
                 push_joined(text, terms, term)?;
             }
             place += 1;
@@ -216,11 +217,11 @@ fn push_nouns(
     Ok(())
 }
 
-/// What is said for all versions, where so many things have the part: `some` of these is needed, `every` one of them by
+/// What is said for all versions, where so many things have the role: `some` of these is needed, `every` one of them by
 /// itself or `any` together with others is held.
-fn word_for_every(part: Part, count: usize) -> &'static str {
-    match (part, count) {
-        (Part::Needed, _) => "some",
+fn word_for_every(role: Role, count: usize) -> &'static str {
+    match (role, count) {
+        (Role::Needed, _) => "some",
         (_, 1) => "every",
         (_, _) => "any",
     }

@@ -112,6 +112,7 @@ pub(crate) fn push_facts(
     push_objects(text, facts, &last)
 }
 
+/// What facts need, one after another; a fact that goes on from the one before adds only its feature.
 fn push_objects(text: &mut String, facts: &Facts<'_>, numbers: &[usize]) -> Result<(), AllocError> {
     let count = numbers.len().saturating_sub(gone_on(facts, numbers));
     let mut told = 0usize;

@@ -75,6 +75,7 @@ pub(crate) fn target_marks(
         .collect(alloc)
 }
 
+/// Whether a requirement matches a version, and its class is among these states, or outside of them.
 fn is_target_of(
     requirement: &VersionReq,
     states: &StateSet<'_>,

@@ -33,6 +33,7 @@ pub(crate) fn push_dependency(
     }
 }
 
+/// `b ^1 as c`, and a note where no candidate is matched.
 fn push_wish(
     text: &mut String,
     problem: &Problem<'_>,

@@ -66,6 +66,7 @@ pub fn sentences_of(
     Ok(so_far.sentences)
 }
 
+/// Each step once, in their order: so premises are looked at before the steps that use them.
 #[tactic(auto, unfolding(crate::specs::inner::Outlines::outline_from))]
 fn look_at_all(
     alloc: Global,
@@ -173,6 +174,7 @@ fn merge(so_far: &mut SoFar, premises: Vec<Premise>) -> Result<(), AllocError>
     Ok(())
 }
 
+/// A sentence of its own for a step: those that use the step refer to it.
 fn tell(
     alloc: Global,
     so_far: &mut SoFar,

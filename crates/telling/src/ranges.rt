@@ -44,6 +44,7 @@ fn are_all(marks: &[bool]) -> bool
     marks.iter().all(|mark| *mark)
 }
 
+/// Runs of these versions behind the name, or that there are none.
 fn push_runs(
     text: &mut String,
     name: &PackageName,

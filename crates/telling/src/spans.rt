@@ -29,15 +29,15 @@ fn runs_of(alloc: Global, marks: &[bool]) -> Result<Vec<Span>, AllocError>
     let mut found = Vec::new(alloc);
     let mut run = None;
     'marks: for (place, mark) in marks.iter().enumerate() {
-        put(&mut found, run, *mark)?;
+        push_if_ended(&mut found, run, *mark)?;
         run = run_after(run, place, *mark);
     }
-    put(&mut found, run, false)?;
+    push_if_ended(&mut found, run, false)?;
     Ok(found)
 }
 
 /// Adds the run that is open, if it ends here.
-fn put(found: &mut Vec<Span>, run: Option<Span>, goes_on: bool) -> Result<(), AllocError>
+fn push_if_ended(found: &mut Vec<Span>, run: Option<Span>, goes_on: bool) -> Result<(), AllocError>
     ensures { OnOk result (found.new.items ≡ found.old.items ++ spans_put run goes_on) }
 {
     match run {

@@ -92,6 +92,7 @@ fn first_told(count: usize, all: bool) -> usize {
 }
 
 impl Whole<'_, '_> {
+    /// All sentences, or the last ones; where one says it all, that one alone.
     fn text(&self, alloc: Global, all: bool) -> Result<String, AllocError> {
         let mut text = String::new(alloc);
         if let Some(sentence) = self.whole_sentence(alloc)? {
@@ -192,6 +193,7 @@ impl Whole<'_, '_> {
         needed_alone(alloc, &self.problem, &terms)
     }
 
+    /// A clause: facts of the manifest and the index, or what another sentence told, with its number.
     fn push_clause(
         &self,
         alloc: Global,
@@ -236,6 +238,7 @@ fn few_facts(alloc: Global, sentences: &[Sentence]) -> Result<Vec<Premise>, Allo
     Ok(facts)
 }
 
+/// Adds those of the premises that are facts, unless they are there.
 fn put_facts(facts: &mut Vec<Premise>, premises: &[Premise]) -> Result<(), AllocError> {
     for premise in premises.iter() {
         if let Premise::Fact(number) = premise {

@@ -25,6 +25,7 @@ pub(crate) fn terms_of<'a>(
     }
 }
 
+/// The terms by what their numbers stand for.
 fn terms_in<'a>(
     alloc: Global,
     tables: &'a Tables,
@@ -40,6 +41,7 @@ fn terms_in<'a>(
     Ok(found)
 }
 
+/// A term by what its numbers stand for.
 fn term_of<'a>(
     alloc: Global,
     tables: &'a Tables,
