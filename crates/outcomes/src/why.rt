@@ -6,7 +6,7 @@ use crate::reading::Project;
 use crate::said::Said;
 use index_reader::Folder;
 use reports::{
-    Inputs, Meant, Part, Wanted, WhyThere, package_in, part_in, similar_name, why_there,
+    Inputs, Meant, PartialId, Wanted, WhyThere, package_in, part_in, similar_name, why_there,
 };
 use resolver::Fault;
 use std::alloc::{AllocError, Global};
@@ -18,7 +18,7 @@ const IS_ROOT: &str = "it is the package of the manifest\n";
 #[derive(Drop)]
 pub enum Question {
     Whole(Wanted),
-    Part(Part),
+    Part(PartialId),
 }
 
 /// Why there is no way to tell.

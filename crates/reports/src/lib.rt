@@ -27,7 +27,7 @@ pub use by_cargo::refused_by_cargo;
 pub use checksums::{Checksums, checksums_of};
 pub use flaws::LackTold;
 pub use lost::{lacks_version, lost_between, lost_version};
-pub use part::{Meant, Part, meant_by, part_in, similar_name};
+pub use part::{Meant, PartialId, meant_by, part_in, similar_name};
 pub use refused::{Beside, Refused, refused_kind, refused_lines, refused_sentence};
 pub use refusing::{lacks_told, refusal_of};
 pub use reporting::{Inputs, changes_to, loaded, unless_failed};

@@ -9,7 +9,7 @@ use std::alloc::{AllocError, Global};
 
 /// A package that is asked for by the first number of its version, or the first two.
 #[derive(Drop)]
-pub struct Part {
+pub struct PartialId {
     name: PackageName,
     /// These numbers, with 0 for the others.
     version: Version,
@@ -26,7 +26,7 @@ pub enum Meant {
 }
 
 /// What `NAME@1` or `NAME@1.2` asks for, if a text is such a one.
-pub fn part_in(alloc: Global, text: &str) -> Result<Option<Part>, AllocError> {
+pub fn part_in(alloc: Global, text: &str) -> Result<Option<PartialId>, AllocError> {
     let Some((name, numbers)) = text.split_once('@') else {
         return Ok(None);
     };
@@ -35,7 +35,7 @@ pub fn part_in(alloc: Global, text: &str) -> Result<Option<Part>, AllocError> {
     };
     let whole = format!(in alloc; "{numbers}.0.0")?;
     if let Some(version) = numbers_in(alloc, whole.as_str())? {
-        return Ok(Some(Part {
+        return Ok(Some(PartialId {
             name,
             version,
             has_minor: false,
@@ -43,7 +43,7 @@ pub fn part_in(alloc: Global, text: &str) -> Result<Option<Part>, AllocError> {
     }
     let whole = format!(in alloc; "{numbers}.0")?;
     match numbers_in(alloc, whole.as_str())? {
-        Some(version) => Ok(Some(Part {
+        Some(version) => Ok(Some(PartialId {
             name,
             version,
             has_minor: true,
@@ -65,7 +65,7 @@ fn numbers_in(alloc: Global, text: &str) -> Result<Option<Version>, AllocError> 
 }
 
 /// Which package of a lock a part of a version asks for.
-pub fn meant_by(alloc: Global, part: &Part, lock: &LockContent) -> Result<Meant, AllocError> {
+pub fn meant_by(alloc: Global, part: &PartialId, lock: &LockContent) -> Result<Meant, AllocError> {
     let mut found: Option<&Package> = None;
     for package in lock.packages().iter() {
         if part.fits(package) {
@@ -97,7 +97,7 @@ pub fn similar_name<'a>(
     nearest(alloc, &names, name)
 }
 
-impl Part {
+impl PartialId {
     /// Whether a package has the name and these numbers; a pre-release has to be asked for as a whole.
     fn fits(&self, package: &Package) -> bool {
         let version = &package.version;

@@ -60,6 +60,7 @@ pub fn package_in(alloc: Global, text: &str) -> Result<Option<Wanted>, AllocErro
     }
 }
 
+/// `NAME`
 fn with_none(alloc: Global, text: &str) -> Result<Option<Wanted>, AllocError>
     ensures { IfOk result (λ o. option_map asked_view o ≡ with_none (name_of text.now)) }
 {
@@ -72,6 +73,7 @@ fn with_none(alloc: Global, text: &str) -> Result<Option<Wanted>, AllocError>
     }
 }
 
+/// `NAME@VERSION`
 fn with_version(alloc: Global, name: &str, text: &str) -> Result<Option<Wanted>, AllocError>
     ensures { IfOk result
         (λ o. option_map asked_view o ≡ with_version (name_of name.now) (version_if (version_parts text.now))) }
@@ -98,6 +100,7 @@ pub(crate) fn name_in(alloc: Global, text: &str) -> Result<Option<PackageName>, 
     }
 }
 
+/// The version that a text is, if it is one.
 pub(crate) fn version_in(alloc: Global, text: &str) -> Result<Option<Version>, AllocError>
     ensures { IfOk result (λ o. option_map parts_of o ≡ version_if (version_parts text.now)) }
 {

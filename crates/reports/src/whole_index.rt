@@ -35,6 +35,7 @@ fn names_at(alloc: Global, paths: &[String]) -> Result<Vec<PackageName>, AllocEr
     Ok(names)
 }
 
+/// The name whose file lies at this path in an index, if one does.
 fn name_at(alloc: Global, path: &str) -> Result<Option<PackageName>, AllocError> {
     let text = match path.rsplit_once('/') {
         Some((_, text)) => text,

@@ -2,11 +2,15 @@
 
 use crate::answers::form::Form;
 use changes::tell_steps;
-use reports::{Inputs, Meant, Part, Way, meant_by};
+use reports::{Inputs, Meant, PartialId, Way, meant_by};
 use std::alloc::{AllocError, Global};
 
 /// Which package of the lock a part of a version asks for.
-pub(crate) fn meant_in(alloc: Global, inputs: &Inputs, part: &Part) -> Result<Meant, AllocError> {
+pub(crate) fn meant_in(
+    alloc: Global,
+    inputs: &Inputs,
+    part: &PartialId,
+) -> Result<Meant, AllocError> {
     match &inputs.lock {
         Some(lock) => meant_by(alloc, part, lock),
         None => Ok(Meant::Absent),

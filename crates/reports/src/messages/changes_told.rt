@@ -48,6 +48,7 @@ pub fn changes_to(
     Ok(text)
 }
 
+/// A message of each change, and how many there are.
 fn push_changes<'a>(
     text: &mut String,
     alloc: Global,
@@ -90,6 +91,7 @@ fn push_yanked(
     Ok(())
 }
 
+/// The message of a line; one of a package that stayed only if all are told and it is behind.
 fn message_of<'a>(told: &'a ToldLine<'a>, all: bool) -> Option<Message<'a>> {
     match told.line {
         Line::Removing(package) => Some(changed(Change::Removed, package, None, told)),
@@ -110,6 +112,7 @@ fn message_of<'a>(told: &'a ToldLine<'a>, all: bool) -> Option<Message<'a>> {
     }
 }
 
+/// What is newer, and which Rust is needed, isn't told of a package that went.
 fn changed<'a>(
     change: Change,
     package: &'a Package,

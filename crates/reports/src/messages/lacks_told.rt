@@ -21,6 +21,7 @@ pub fn lacks_of<F: Folder>(
     unless_failed(alloc, lacks)
 }
 
+/// A message for each dependency of the manifest that nothing fits.
 fn lacks_in<F: Folder>(
     alloc: Global,
     folder: &mut F,

@@ -37,7 +37,7 @@ pub(crate) enum Message<'a> {
     },
     /// A way to a package from that of the manifest.
     Way {
-        steps: Vec<Step<'a>>,
+        steps: Vec<ToldStep<'a>>,
     },
     /// How many lines of the index are skipped for a reason.
     SkippedLines {
@@ -52,7 +52,7 @@ pub(crate) enum Message<'a> {
         line: u64,
     },
     /// A dependency that leads on to a package.
-    Dependency(Step<'a>),
+    Dependency(ToldStep<'a>),
 }
 
 /// What became of a package, and where it is from.
@@ -108,7 +108,7 @@ pub(crate) enum LackKind {
 
 /// A step of a way.
 #[derive(Drop, Serialize)]
-pub(crate) struct Step<'a> {
+pub(crate) struct ToldStep<'a> {
     pub(crate) from: PackageId<'a>,
     /// What the one needs of the other; none where its list alone says so.
     pub(crate) requirement: Option<Shown<'a, Requirement>>,

@@ -15,6 +15,7 @@ pub fn skips(alloc: Global, skips: &[Skip], all: bool) -> Result<String, AllocEr
     Ok(text)
 }
 
+/// How many lines are skipped for one reason, and each of them if all are told.
 fn push_reason(
     text: &mut String,
     alloc: Global,

@@ -114,6 +114,7 @@ impl<'a> More<'a> {
         More::about(other, None)
     }
 
+    /// No more than another package and what is missing.
     fn about(other: Option<&'a Package>, missing: Option<Missing<'a>>) -> More<'a> {
         More {
             dependency: None,
@@ -167,6 +168,7 @@ pub fn flaws_of_lock<F: Folder>(
     unless_failed(alloc, flaws)
 }
 
+/// A message for each flaw; one alone where the lock lacks the root, since nothing else can be judged then.
 fn flaws_in<'a, F: Folder>(
     alloc: Global,
     folder: &mut F,

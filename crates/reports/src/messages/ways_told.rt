@@ -1,6 +1,6 @@
 //! Why a package is in a lock.
 
-use crate::messages::message::{Message, PackageId, Step, push_message};
+use crate::messages::message::{Message, PackageId, ToldStep, push_message};
 use crate::messages::shown::Shown;
 use changes::WayStep;
 use features::{Dependency, FeatureName};
@@ -28,10 +28,11 @@ pub fn dependencies(alloc: Global, steps: &[WayStep<'_>]) -> Result<String, Allo
     Ok(text)
 }
 
-fn step_of<'a>(alloc: Global, step: WayStep<'a>) -> Result<Step<'a>, AllocError> {
+/// A step of a way as it is told, with what its dependency asks for.
+fn step_of<'a>(alloc: Global, step: WayStep<'a>) -> Result<ToldStep<'a>, AllocError> {
     let (from, to) = (id_of(step.owner), id_of(step.target));
     let Some(dependency) = step.dependency else {
-        return Ok(Step {
+        return Ok(ToldStep {
             from,
             requirement: None,
             renamed: None,
@@ -39,7 +40,7 @@ fn step_of<'a>(alloc: Global, step: WayStep<'a>) -> Result<Step<'a>, AllocError>
             to,
         });
     };
-    Ok(Step {
+    Ok(ToldStep {
         from,
         requirement: Some(Shown(&dependency.requirement)),
         renamed: other_name(dependency),
