@@ -40,6 +40,7 @@ pub fn fetched_index<R: Files + AllocGlobal + Clone + Drop>(
     }
 }
 
+/// The folder of an index called so into which a file came last.
 fn newest_cache<R: Files + AllocGlobal + Clone + Drop>(
     rt: &R,
     indexes: &str,
@@ -70,6 +71,7 @@ fn changed_at<R: Files>(rt: &R, path: &str) -> Option<SystemTime> {
     }
 }
 
+/// The one that was changed later; the first of two alike.
 fn later(
     one: Option<(SystemTime, String)>,
     other: (SystemTime, String),

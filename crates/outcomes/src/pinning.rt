@@ -63,6 +63,7 @@ fn lines_of(alloc: Global, pin: &Pin, file: &[u8]) -> Result<Vec<u8>, AllocError
     Ok(lines)
 }
 
+/// Whether a line is the record of one of the versions.
 fn is_pinned(alloc: Global, pin: &Pin, line: &[u8]) -> Result<bool, AllocError> {
     match read_line(alloc, &pin.name, line) {
         Ok(record) => Ok(

@@ -71,6 +71,7 @@ fn read_file<'a, R: Files + AllocGlobal>(
     }
 }
 
+/// The bytes of the lock; it may be absent, unless it is needed.
 fn read_lock<'a, R: Files + AllocGlobal>(
     rt: &R,
     path: &'a str,
@@ -90,6 +91,7 @@ fn read_lock<'a, R: Files + AllocGlobal>(
     }
 }
 
+/// Whether the index is a folder: what is none would look like an empty index.
 pub(crate) fn check_index<'a, R: Files>(rt: &R, path: &'a str) -> Result<(), ReadFault<'a>>
     ensures { IfErr result (IsAbout path.entry.now) }
 {

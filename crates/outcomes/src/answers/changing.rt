@@ -92,6 +92,7 @@ fn lacks_in<F: Folder>(
     Ok(placed(alloc, project, &lacks)?)
 }
 
+/// What is told of each dependency, behind its place in the manifest.
 fn placed(
     alloc: Global,
     project: Project<'_>,

@@ -29,6 +29,7 @@ pub(crate) fn unlock<'a>(
     Ok(unlocked_in(alloc, &inputs, bytes, asked)?)
 }
 
+/// The files without what the lock says of these packages, or the first words that don't mean one package.
 fn unlocked_in<'a>(
     alloc: Global,
     inputs: &Inputs,
@@ -59,6 +60,7 @@ pub(crate) fn found_in(
     }
 }
 
+/// The package of this name, and of this version if one is asked for, where just one is such.
 fn whole_in(lock: &LockContent, wanted: &Wanted) -> Result<Meant, AllocError> {
     let mut is_found = false;
     for package in lock.packages().iter() {
@@ -87,6 +89,7 @@ pub(crate) fn rest_without(
     rest_of(alloc, bytes, &one)
 }
 
+/// The files with a lock that lacks these packages; with none where no package is left, or where these are none.
 fn rest_of(alloc: Global, bytes: &Bytes, wanted: &[Wanted]) -> Result<Bytes, AllocError> {
     let mut without = Vec::new(alloc);
     for one in wanted {
