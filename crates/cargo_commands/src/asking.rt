@@ -124,6 +124,7 @@ struct Lacking {
     inner: Option<String>,
 }
 
+/// How a run ends whose index isn't there.
 fn without_index(
     alloc: Global,
     index: &str,
@@ -175,6 +176,7 @@ fn inner_index<R: Files + AllocGlobal + Clone + Drop>(
     Ok(if is_index { Some(inner) } else { None })
 }
 
+/// Whether some path is that of a package's file in an index.
 fn has_index_file(alloc: Global, paths: &[String]) -> Result<bool, AllocError> {
     for path in paths {
         let path = path.as_str();
@@ -281,6 +283,7 @@ pub(crate) fn precise_at<'a, R: Files + Clock + Eprint + AllocGlobal + Clone + D
     Ok(ended(rt, project, told, &index, watch, said)?)
 }
 
+/// With an index that has of some packages only the versions that are asked for.
 fn precisely<R: Files + Clock + Eprint + AllocGlobal + Clone + Drop>(
     rt: &R,
     index: &mut Index<'_, R>,

@@ -38,6 +38,7 @@ pub(crate) fn push_painted(to: &mut Vec<u8>, line: &[u8]) -> Result<(), AllocErr
     to.extend_from_slice(line)
 }
 
+/// A line with its first word in color, and the newer version that it names.
 fn push_colored(to: &mut Vec<u8>, parts: Colored<'_>) -> Result<(), AllocError> {
     push_styled(to, parts.style, parts.word)?;
     match newer(parts.rest) {

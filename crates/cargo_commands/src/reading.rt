@@ -120,6 +120,7 @@ pub(crate) fn read_words<'a>(alloc: Global, words: &'a [&'a str]) -> Result<Aske
     }
 }
 
+/// What the words ask; nothing where they name no command.
 fn asked_by<'a>(alloc: Global, matches: &ArgMatches<'a>) -> Result<Option<Asked<'a>>, AllocError> {
     let Some((name, found)) = matches.subcommand() else {
         return Ok(None);
@@ -135,6 +136,7 @@ fn asked_by<'a>(alloc: Global, matches: &ArgMatches<'a>) -> Result<Option<Asked<
     }
 }
 
+/// The words of `update`; with `--workspace` and no package it is what `resolve` does.
 fn update_in<'a>(alloc: Global, found: &ArgMatches<'a>) -> Result<CargoWords<'a>, AllocError> {
     let mut packages = Vec::new(alloc);
     for id in ["package", "more-packages"] {
@@ -157,6 +159,7 @@ fn update_in<'a>(alloc: Global, found: &ArgMatches<'a>) -> Result<CargoWords<'a>
     })
 }
 
+/// The words of every other command.
 fn words_of<'a>(name: &str, found: &ArgMatches<'a>) -> Option<CargoWords<'a>> {
     let places = places_of(found);
     match name {
