@@ -1,7 +1,7 @@
 //! Plays a case: the commands of its session one by one, in its folder.
 
 use crate::helping::{cat, cmp, repeat};
-use crate::sessions::{Step, steps_of};
+use crate::sessions::{SessionStep, steps_of};
 use crate::sink::Sink;
 use std::alloc::{AllocError, Global};
 use std::env::{self, Env};
@@ -59,7 +59,7 @@ fn is_as_told<R: Files + AllocGlobal + Print, P: Programs>(
     rt: &R,
     programs: &P,
     name: &str,
-    step: &Step<'_>,
+    step: &SessionStep<'_>,
 ) -> io::Result<bool> {
     match run_command(rt, programs, step.command) {
         Ok(ended) if ended.is_told_by(step) => return Ok(true),
@@ -84,7 +84,7 @@ struct Ended<F> {
 }
 
 impl<F> Ended<F> {
-    fn is_told_by(&self, step: &Step<'_>) -> bool {
+    fn is_told_by(&self, step: &SessionStep<'_>) -> bool {
         let is_status = self.status.as_str() == step.status;
         let is_out = is_like(self.out.kept_text(), step.out.as_str());
         is_status && is_out && is_like(self.err.kept_text(), step.err.as_str())

@@ -10,6 +10,7 @@ use std::{fs, io};
 
 const SOURCE: &str = "registry+https://github.com/rust-lang/crates.io-index";
 
+/// A manifest and its index as they were read: it owns what a `Problem` of `lookups` borrows.
 #[derive(Drop)]
 pub(crate) struct Problem {
     pub(crate) manifest: Manifest,

@@ -4,7 +4,7 @@ use std::alloc::{AllocError, Global};
 
 /// A command and how it has to end.
 #[derive(Debug, Drop)]
-pub(crate) struct Step<'a> {
+pub(crate) struct SessionStep<'a> {
     pub(crate) command: &'a str,
     /// The status in decimal.
     pub(crate) status: &'a str,
@@ -15,7 +15,10 @@ pub(crate) struct Step<'a> {
 }
 
 /// The steps of a session: what stands before the first command only tells what the case is about.
-pub(crate) fn steps_of<'a>(alloc: Global, session: &'a str) -> Result<Vec<Step<'a>>, AllocError> {
+pub(crate) fn steps_of<'a>(
+    alloc: Global,
+    session: &'a str,
+) -> Result<Vec<SessionStep<'a>>, AllocError> {
     let mut steps = Vec::new(alloc);
     for text in session.split("\n$ ").skip(1) {
         steps.push(step_of(alloc, text)?)?;
@@ -24,9 +27,9 @@ pub(crate) fn steps_of<'a>(alloc: Global, session: &'a str) -> Result<Vec<Step<'
 }
 
 /// The step of a text whose first line is the command.
-fn step_of<'a>(alloc: Global, text: &'a str) -> Result<Step<'a>, AllocError> {
+fn step_of<'a>(alloc: Global, text: &'a str) -> Result<SessionStep<'a>, AllocError> {
     let (command, end) = text.split_once('\n').unwrap_or((text, ""));
-    let mut step = Step {
+    let mut step = SessionStep {
         command,
         status: "0",
         out: String::new(alloc),
@@ -39,7 +42,7 @@ fn step_of<'a>(alloc: Global, text: &'a str) -> Result<Step<'a>, AllocError> {
 }
 
 /// A line below the command: `? STATUS`, `! ` and a line of standard error, or a line of standard output.
-fn take<'a>(step: &mut Step<'a>, line: &'a str) -> Result<(), AllocError> {
+fn take<'a>(step: &mut SessionStep<'a>, line: &'a str) -> Result<(), AllocError> {
     if let Some(status) = line.strip_prefix("? ") {
         step.status = status;
         return Ok(());
