@@ -42,7 +42,7 @@ pub(crate) fn named<'a>(
 {
     let mut vertices = Vec::new(alloc);
     put_root(known, &mut vertices)?;
-    put_names(known, &mut vertices, known.catalogue.names())?;
+    put_names(known, &mut vertices, known.problem.catalogue.names())?;
     Ok(vertices)
 }
 
@@ -55,10 +55,15 @@ fn put_root<'a>(
     ensures { OnOk result
         (vertex_views vertices.new.items ≡ vertex_views vertices.old.items ++ of_root (problem known.now)) }
 {
-    let dependencies = known.manifest.dependencies();
+    let dependencies = known.problem.manifest.dependencies();
     vertices.push(VertexRef::Root)?;
     put_dependencies(known, vertices, OwnerRef::Root, dependencies)?;
-    put_rows(known, vertices, dependencies, known.manifest.features())
+    put_rows(
+        known,
+        vertices,
+        dependencies,
+        known.problem.manifest.features(),
+    )
 }
 
 /// What the entries of all features of a table ask these dependencies for.
@@ -104,7 +109,12 @@ fn put_names<'a>(
         ≡ vertex_views vertices.old.items ++ flat_map (of_name (problem known.now)) names.entry.now) }
 {
     'names: for name in names.iter() {
-        put_versions(known, vertices, name, known.catalogue.versions(name))?;
+        put_versions(
+            known,
+            vertices,
+            name,
+            known.problem.catalogue.versions(name),
+        )?;
     }
     Ok(())
 }
@@ -137,7 +147,11 @@ fn put_version<'a>(
         ++ of_version (problem known.now) release.entry.name.now (parts_of release.entry.version.now)) }
 {
     vertices.push(VertexRef::Package(release.name, Class::of(release.version)))?;
-    match known.catalogue.candidate(release.name, release.version) {
+    match known
+        .problem
+        .catalogue
+        .candidate(release.name, release.version)
+    {
         Some(candidate) => put_brought(known, vertices, release, &candidate.brings),
         None => Ok(()),
     }
@@ -440,7 +454,12 @@ fn put_in_each<'a>(
     ensures { OnOk result (vertex_views vertices.new.items
         ≡ vertex_views vertices.old.items ++ feature_of (problem known.now) name.entry.now feature.entry.now) }
 {
-    put_classes(vertices, name, feature, known.catalogue.versions(name))
+    put_classes(
+        vertices,
+        name,
+        feature,
+        known.problem.catalogue.versions(name),
+    )
 }
 
 /// A feature of a name, in the class of each of these versions.

@@ -5,7 +5,6 @@ ghost use Rattle.catalogue.specs.Problems.{problem_in};
 ghost use Rattle.model.specs.Vertices.{Vertex as model, space};
 ghost use Rattle.numbering.specs.inner.Assignments.{state_at};
 ghost use Rattle.numbering.specs.GivenViews.{given_views};
-ghost use Rattle.numbering.specs.inner.KnownProblem.{KnowsDefault, problem};
 ghost use Rattle.numbering.specs.Pairs.{IsGivenAt};
 ghost use Rattle.vertices.specs.Views.{state_view};
 ghost use Rattle.encoding.specs.Encodings.{AreVertices};
@@ -18,7 +17,7 @@ use catalogue::Catalogue;
 use features::{FeatureName, NameFault};
 use incompatibilities::Incompatibility;
 use manifest::Manifest;
-use numbering::{KnownProblem, Matched, axioms_at, state_at};
+use numbering::{KnownProblem, axioms_at, state_at};
 use std::alloc::{AllocError, Global};
 use version_sets::States;
 use vertices::{Kind, State};
@@ -31,25 +30,6 @@ pub(crate) fn default_name(alloc: Global) -> Result<FeatureName, AllocError>
         Ok(name) => Ok(name),
         Err(NameFault::OutOfMemory) => Err(AllocError),
         Err(NameFault::NotAName) => unreachable!(),
-    }
-}
-
-/// The manifest and the loaded index, with nothing matched yet.
-pub(crate) fn known<'a>(
-    alloc: Global,
-    manifest: &'a Manifest,
-    catalogue: &'a Catalogue,
-    default: &'a FeatureName,
-) -> KnownProblem<'a>
-    requires default { default.now ≡ codes "default" }
-    ensures default { KnowsDefault result }
-    ensures problem { problem result ≡ problem_in manifest.entry.now catalogue.entry.now }
-{
-    KnownProblem {
-        manifest,
-        catalogue,
-        default,
-        matched: Matched::new(alloc, manifest, catalogue),
     }
 }
 
@@ -66,7 +46,7 @@ pub(crate) fn value_of<'a>(
     ensures { IfOk result (λ s. state_view s
         ≡ state_at (problem_in manifest.entry.now catalogue.entry.now) (vertex_view vertex.entry.now) state) }
 {
-    let known = known(alloc, manifest, catalogue, default);
+    let known = KnownProblem::new(alloc, manifest, catalogue, default);
     let vertex = vertex.borrowed();
     let state = state_at(alloc, &known, &vertex, state)?;
     state_of(state)
@@ -90,7 +70,7 @@ pub(crate) fn pair_axioms<'a, S: States + Drop>(
         (problem_in manifest.entry.now catalogue.entry.now) (vertices_of rows.entry.now)
         (v, state_at (problem_in manifest.entry.now catalogue.entry.now) v state) (given_views S.tests xs.items)) }
 {
-    let known = known(alloc, manifest, catalogue, default);
+    let known = KnownProblem::new(alloc, manifest, catalogue, default);
     let vertices = borrowed(alloc, rows)?;
     let mut table = numbered(alloc, vertices.as_slice())?;
     axioms_at(alloc, &known, &mut table, vertex, state)

@@ -27,7 +27,7 @@ pub(crate) fn every_row(alloc: Global, known: &KnownProblem<'_>) -> Result<Vec<R
     requires default { KnowsDefault known.now }
     ensures { IfOk result (λ rows. IsEncoding (problem known.now) rows.items) }
 {
-    catalogues_are_well_formed(known.manifest, known.catalogue);
+    catalogues_are_well_formed(known.problem.manifest, known.problem.catalogue);
     let vertices = named(alloc, known)?;
     let table = numbered(alloc, vertices.as_slice())?;
     sized_rows(alloc, known, &table)

@@ -10,12 +10,13 @@ ghost use Rattle.encoding.specs.Encodings.{AreVertices, IsGivenIf, pair_at};
 ghost use Rattle.encoding.specs.Everywhere.{IsGivenAll, IsGivenFor, all_pairs};
 ghost use Rattle.encoding.specs.Views.{vertex_view};
 
-use crate::pair::{default_name, known, pair_axioms, value_of};
+use crate::pair::{default_name, pair_axioms, value_of};
 use crate::rows::{Row, every_row, place_of};
 use crate::vertex::Vertex;
 use catalogue::{Catalogue, catalogues_are_well_formed};
 use incompatibilities::Incompatibility;
 use manifest::Manifest;
+use numbering::KnownProblem;
 use std::alloc::{AllocError, Global};
 use std::marker::Model;
 use version_sets::States;
@@ -61,7 +62,7 @@ impl<'a> Encoding<'a> {
         ensures { IfOk result (λ e. e.problem ≡ problem_in manifest.entry.now catalogue.entry.now) }
     {
         let default = default_name(alloc)?;
-        let known = known(alloc, manifest, catalogue, &default);
+        let known = KnownProblem::new(alloc, manifest, catalogue, &default);
         let rows = every_row(alloc, &known)?;
         Ok(Encoding {
             alloc,

@@ -103,7 +103,7 @@ impl<'a, S: States + Drop> Encoded<'a, S> {
         ensures { IfOk result (λ g. HasBegun (problem known.entry) follows g (trail_view S.tests trail.new)
             (entries_view S.tests store.new)) }
     {
-        catalogues_are_well_formed(known.manifest, known.catalogue);
+        catalogues_are_well_formed(known.problem.manifest, known.problem.catalogue);
         let mut table = Table::new(alloc);
         let mut asked = Vec::new(alloc);
         // The one pair with absent that has an instance; others are asked for when they come to stand alone.

@@ -28,7 +28,7 @@ fn root_in<'a>(known: &KnownProblem<'_>, content: &'a [Package]) -> Option<&'a P
     ensures { option_map (λ p. p.now) result ≡ find (λ p. is_sourceless (package_view p)) content.entry.now }
 {
     // It has the manifest's name, and those of a name stand side by side.
-    let rest = &content[lower(content, known.manifest.name())..];
+    let rest = &content[lower(content, known.problem.manifest.name())..];
     first_sourceless(rest)
 }
 

@@ -26,7 +26,7 @@ pub(crate) fn version_number(
         (model.version (parts_of version.now)) ≡ true → IsNumberOf (problem known.now)
         (pkg name.now (class_view class)) (model.version (parts_of version.now)) result }
 {
-    let versions = known.catalogue.versions(name);
+    let versions = known.problem.catalogue.versions(name);
     // The versions of a class stand together, after those of lower classes.
     let rest = &versions[below(class, versions)..];
     let place = place_of(rest, version)?;

@@ -7,8 +7,8 @@ ghost use Rattle.version_sets.specs.Sets.{has, size};
 use crate::choosing::greatest;
 use classes::Class;
 use features::{DependencyParts, PackageName};
-use lookups::{below, of_class};
-use numbering::{KnownProblem, Table, class_number, dependency_at};
+use lookups::{below, dependency_at, of_class};
+use numbering::{KnownProblem, Table, class_number};
 use propagation::Trail;
 use std::alloc::{AllocError, Global};
 use std::collections::HashMap;
@@ -156,7 +156,8 @@ impl<'a> Preferences<'a> {
         number: usize,
     ) -> Result<(), AllocError> {
         if !self.orders.contains_key(&name) {
-            self.orders.insert(name, known.catalogue.prefer(name)?)?;
+            self.orders
+                .insert(name, known.problem.catalogue.prefer(name)?)?;
         }
         if !self.ranked.contains_key(&number) {
             let states = Vec::new(alloc);
@@ -248,14 +249,14 @@ fn choice_of<'a>(
 ) -> Option<(&'a PackageName, Choice<'a>)> {
     match vertex {
         VertexRef::Package(name, class) => {
-            let versions = known.catalogue.versions(name);
+            let versions = known.problem.catalogue.versions(name);
             // The versions of a class stand together.
             let first = below(*class, versions);
             let count = of_class(*class, versions).len();
             Some((*name, Choice::Versions { first, count }))
         }
         VertexRef::Dependency(owner, number) => {
-            let dependency = dependency_at(known, owner, *number)?;
+            let dependency = dependency_at(&known.problem, owner, *number)?;
             Some((&dependency.real_name, Choice::Classes(dependency)))
         }
         _ => None,
@@ -273,7 +274,7 @@ fn state_of(
 ) -> Result<Option<u32>, AllocError> {
     match choice {
         Choice::Versions { first, count } => Ok(state_among(first, count, place)),
-        Choice::Classes(dependency) => match known.catalogue.versions(name).get(place) {
+        Choice::Classes(dependency) => match known.problem.catalogue.versions(name).get(place) {
             Some(version) if dependency.requirement.matches(version) => {
                 let number = class_number(alloc, known, dependency, Class::of(version))?;
                 Ok(number.map(|number| state_at(number)))

@@ -27,7 +27,8 @@ use crate::numbers::version_number;
 use classes::Class;
 use features::PackageName;
 use lockfile::{LockContent, Package};
-use numbering::{KnownProblem, class_number, dependency_at, spaces_are_small};
+use lookups::dependency_at;
+use numbering::{KnownProblem, class_number, spaces_are_small};
 use std::alloc::{AllocError, Global};
 use vertices::{OwnerRef, VertexRef};
 
@@ -83,7 +84,7 @@ fn class_in(
         (IsStateIn (problem known.now) (package_views content.now) (dep (owner_ref_view owner.now) number)) }
 {
     spaces_are_small(known);
-    let Some(dependency) = dependency_at(known, owner, number) else {
+    let Some(dependency) = dependency_at(&known.problem, owner, number) else {
         return Ok(None);
     };
     let Some(locked) = led_to(known, content, owner, dependency) else {

@@ -22,12 +22,11 @@ ghost use Rattle.vertices.specs.inner.RefViews.{owner_ref_view};
 
 use crate::called::{ByName, Numbered};
 use crate::known_problem::KnownProblem;
-use crate::owners::{brings, dependencies_of};
 use crate::possible_classes::classes_of;
 use classes::{Class, same_class};
 use features::{Dependency, DependencyParts, Entry, FeatureName, FeatureTable, PackageName};
 use indexmap::IndexSet;
-use lookups::{Cause, is_needed};
+use lookups::{Cause, brings, dependencies_of, is_needed};
 use semver::Version;
 use std::alloc::{AllocError, Global};
 use vertices::OwnerRef;
@@ -393,7 +392,7 @@ pub(crate) fn put_version<'a>(
         ++ version_causes (problem known.now) name.entry.now (parts_of version.entry.now)) }
 {
     let owner = OwnerRef::Version(name, version);
-    put_needs(causes, owner, dependencies_of(known, &owner))?;
+    put_needs(causes, owner, dependencies_of(&known.problem, &owner))?;
     put_features(alloc, known, causes, name, version)
 }
 
@@ -409,7 +408,7 @@ fn put_features<'a>(
         ++ flat_map (λ row. feature_causes (problem known.now) name.entry.now (parts_of version.entry.now) row.0)
         (table_of_owner (problem known.now) (model_vertices.version_of name.entry.now (parts_of version.entry.now)))) }
 {
-    match brings(known, &OwnerRef::Version(name, version)) {
+    match brings(&known.problem, &OwnerRef::Version(name, version)) {
         Some(summary) => {
             let called = ByName::of(alloc, summary.dependencies.as_slice())?;
             put_rows(

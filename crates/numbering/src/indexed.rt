@@ -12,10 +12,8 @@ ghost use Rattle.numbering.specs.inner.OnPackage.{on_package};
 use crate::asked::Asked;
 use crate::called::Numbered;
 use crate::on_package::OnPackage;
-use catalogue::Catalogue;
 use features::{Dependency, PackageName};
 use lookups::{Problem, dependencies_of};
-use manifest::Manifest;
 use std::alloc::{AllocError, Global};
 use std::collections::HashMap;
 use vertices::OwnerRef;
@@ -56,21 +54,13 @@ fn are_on(name: &PackageName, dependencies: &[Dependency]) -> bool {
 
 impl<'a> Indexed<'a> {
     ghost use Rattle.numbering.specs.inner.IndexedViews.{problem_indexed};
-    ghost use Rattle.catalogue.specs.Problems.{problem_in};
 
     /// Nothing is kept yet.
-    pub(crate) fn new(
-        alloc: Global,
-        manifest: &'a Manifest,
-        catalogue: &'a Catalogue,
-    ) -> Indexed<'a>
-        ensures { problem_indexed result ≡ problem_in manifest.entry.now catalogue.entry.now }
+    pub(crate) fn new(alloc: Global, problem: Problem<'a>) -> Indexed<'a>
+        ensures { problem_indexed result ≡ problem_view problem.entry }
     {
         Indexed {
-            problem: Problem {
-                manifest,
-                catalogue,
-            },
+            problem,
             asked: None,
             owners: HashMap::new(alloc),
         }

@@ -39,8 +39,8 @@ pub fn instance<'a, S: States + Drop>(
     ensures says { IfOk result (λ i. Says (problem known.now) table.new (terms_view S.tests i)
         (terms_of_cause (problem known.now) (cause_view cause.now))) }
 {
-    catalogues_are_well_formed(known.manifest, known.catalogue);
-    let _ = known.catalogue.names();
+    catalogues_are_well_formed(known.problem.manifest, known.problem.catalogue);
+    let _ = known.problem.catalogue.names();
     let tested_terms = terms_tested(alloc, known, cause)?;
     let terms = put_all_tested(alloc, known, table, tested_terms.as_slice())?;
     Ok(made_of(terms))

@@ -1,8 +1,7 @@
 //! What vertices and axioms are looked up in.
 
-ghost use Rattle.std.specs.Prelude.{◌≡◌};
-ghost use Rattle.catalogue.specs.Problems.{problem_in};
-ghost use Rattle.lookups.specs.inner.Views as looked_up;
+ghost use Rattle.std.specs.Prelude.{◌≡◌, codes};
+ghost use Rattle.lookups.specs.inner.Views.{problem_view};
 ghost use Rattle.numbering.specs.inner.MatchedViews.{problem_of};
 
 use crate::matched::Matched;
@@ -10,29 +9,41 @@ use catalogue::Catalogue;
 use features::FeatureName;
 use lookups::Problem;
 use manifest::Manifest;
+use std::alloc::Global;
 
-/// The manifest and the loaded index, the name of the feature `default`, which a dependency may ask for without
-/// spelling it, and what is known of what requirements match there. A look-up that needs nothing of this takes a
-/// `Problem` of `lookups`, which `held` gives.
+/// A problem beside what a search over it has at hand: the name of the feature `default`, which a dependency may ask
+/// for without spelling it, and what is known of what requirements match there. Look-ups take a `Problem` alone.
 #[derive(Drop)]
 pub struct KnownProblem<'a> {
-    pub manifest: &'a Manifest,
-    pub catalogue: &'a Catalogue,
+    pub problem: Problem<'a>,
     pub default: &'a FeatureName,
     pub matched: Matched<'a>,
-    ghost matched_there: { problem_of matched ≡ problem_in manifest.now catalogue.now },
+    ghost matched_there: { problem_of matched ≡ problem_view problem },
 }
 
 impl<'a> KnownProblem<'a> {
-    ghost use Rattle.numbering.specs.inner.KnownProblem.{problem};
+    ghost use Rattle.catalogue.specs.Problems.{problem_in};
+    ghost use Rattle.numbering.specs.inner.KnownProblem.{KnowsDefault, problem};
 
-    /// The manifest and the loaded index alone.
-    pub(crate) fn held(&self) -> Problem<'a>
-        ensures { looked_up.problem_view result ≡ problem self.now }
+    /// With nothing matched yet.
+    pub fn new(
+        alloc: Global,
+        manifest: &'a Manifest,
+        catalogue: &'a Catalogue,
+        default: &'a FeatureName,
+    ) -> KnownProblem<'a>
+        requires default { default.now ≡ codes "default" }
+        ensures default { KnowsDefault result }
+        ensures problem { problem result ≡ problem_in manifest.entry.now catalogue.entry.now }
     {
-        Problem {
-            manifest: self.manifest,
-            catalogue: self.catalogue,
+        let problem = Problem {
+            manifest,
+            catalogue,
+        };
+        KnownProblem {
+            problem,
+            default,
+            matched: Matched::new(alloc, problem),
         }
     }
 }

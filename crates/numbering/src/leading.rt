@@ -15,10 +15,9 @@ ghost use Rattle.vertices.specs.inner.RefViews.{owner_ref_view};
 use crate::asked::{Asked, Wanted};
 use crate::known_problem::KnownProblem;
 use crate::newest::{put_both, put_newest};
-use crate::owners::dependency_at;
 use classes::Class;
 use features::{DependencyParts, FeatureName};
-use lookups::Cause;
+use lookups::{Cause, dependency_at};
 use std::alloc::{AllocError, Global};
 use vertices::OwnerRef;
 
@@ -42,7 +41,7 @@ pub(crate) fn put_lead<'a>(
         (problem known.now) (owner_ref_view lead.entry.owner) lead.entry.number (class_view lead.entry.class)
         (dependency_at (problem known.now) (owner_ref_view lead.entry.owner) lead.entry.number)) }
 {
-    match dependency_at(known, &lead.owner, lead.number) {
+    match dependency_at(&known.problem, &lead.owner, lead.number) {
         Some(dependency) => put_leading(alloc, known, causes, lead, dependency),
         None => Ok(()),
     }
@@ -81,7 +80,7 @@ pub(crate) fn put_asked_lead<'a>(
         (class_view lead.entry.class)
         (dependency_at (problem known.now) (owner_ref_view lead.entry.owner) lead.entry.number)) }
 {
-    match dependency_at(known, &lead.owner, lead.number) {
+    match dependency_at(&known.problem, &lead.owner, lead.number) {
         Some(dependency) => put_asked_leading(alloc, known, those, causes, lead, dependency),
         None => Ok(()),
     }
@@ -222,7 +221,7 @@ fn put_root_asked<'a>(
     match known.matched.asked() {
         Some(asked) => put_asked(causes, lead, name, asked),
         None => {
-            let asked = Asked::of(alloc, known.manifest.features())?;
+            let asked = Asked::of(alloc, known.problem.manifest.features())?;
             put_asked(causes, lead, name, &asked)
         }
     }

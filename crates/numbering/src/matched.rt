@@ -19,14 +19,13 @@ use crate::asked::Asked;
 use crate::called::Numbered;
 use crate::indexed::Indexed;
 use crate::table::Table;
-use catalogue::{Catalogue, catalogues_are_well_formed};
+use catalogue::catalogues_are_well_formed;
 use classes::Class;
 use features::{Dependency, DependencyParts, PackageName};
 use lookups::{
     Problem, all_classes, are_releases, class_range, class_versions, classes_matched,
     dependencies_of,
 };
-use manifest::Manifest;
 use semver::VersionReq;
 use std::alloc::{AllocError, Global};
 use std::collections::HashMap;
@@ -62,20 +61,16 @@ pub struct Matched<'a> {
 
 impl<'a> Matched<'a> {
     ghost use Rattle.numbering.specs.inner.MatchedViews.{problem_of};
-    ghost use Rattle.catalogue.specs.Problems.{problem_in};
 
     /// Nothing is kept yet.
-    pub fn new(alloc: Global, manifest: &'a Manifest, catalogue: &'a Catalogue) -> Matched<'a>
-        ensures { problem_of result ≡ problem_in manifest.entry.now catalogue.entry.now }
+    pub(crate) fn new(alloc: Global, problem: Problem<'a>) -> Matched<'a>
+        ensures { problem_of result ≡ problem_view problem.entry }
     {
         Matched {
-            problem: Problem {
-                manifest,
-                catalogue,
-            },
+            problem,
             classes: HashMap::new(alloc),
             names: HashMap::new(alloc),
-            indexed: Indexed::new(alloc, manifest, catalogue),
+            indexed: Indexed::new(alloc, problem),
         }
     }
 

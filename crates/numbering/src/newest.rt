@@ -17,11 +17,10 @@ ghost use Rattle.vertices.specs.inner.RefViews.{owner_ref_view};
 
 use crate::known_problem::KnownProblem;
 use crate::leading::Lead;
-use crate::owners::{dependencies_of, dependency_at};
 use crate::possible_classes::classes_of;
 use classes::Class;
 use features::{Dependency, DependencyParts, PackageName};
-use lookups::{Cause, has_class};
+use lookups::{Cause, dependencies_of, dependency_at, has_class};
 use std::alloc::{AllocError, Global};
 
 /// What a dependency that leads to a class gives with each other one, in each higher class.
@@ -37,7 +36,7 @@ pub(crate) fn put_newest<'a>(
         (class_view lead.entry.class) (dependency_view dependency.entry.now)) 0
         (owner_brings (problem known.now) (owner_ref_view lead.entry.owner)).dependencies) }
 {
-    let all = dependencies_of(known, &lead.owner);
+    let all = dependencies_of(&known.problem, &lead.owner);
     put_newest_among(alloc, known, causes, lead, dependency, all)
 }
 
@@ -126,7 +125,7 @@ fn put_overtaken<'a>(
         ++ overtaken_if (problem known.now) (owner_ref_view lead.entry.owner) lead.entry.number
         (class_view lead.entry.class) (dependency_view dependency.now) number (class_view higher)) }
 {
-    if lead.class.is_lower(higher) && has_class(&known.held(), higher, dependency) {
+    if lead.class.is_lower(higher) && has_class(&known.problem, higher, dependency) {
         causes.push(Cause::Newest(lead.owner, lead.number, number, lead.class, higher))?;
     }
     Ok(())
@@ -197,7 +196,7 @@ fn is_newest<'a>(known: &KnownProblem<'a>, lead: Lead<'a>, number: usize, higher
     if !lead.class.is_lower(higher) || lead.number == number {
         return false;
     }
-    match dependency_at(known, &lead.owner, lead.number) {
+    match dependency_at(&known.problem, &lead.owner, lead.number) {
         Some(dependency) => is_overtaken_by(known, lead, dependency, number, higher),
         None => false,
     }
@@ -215,7 +214,7 @@ fn is_overtaken_by<'a>(
         (dependency_view dependency.now))
         (dependency_at (problem known.now) (owner_ref_view lead.entry.owner) number) }
 {
-    match dependency_at(known, &lead.owner, number) {
+    match dependency_at(&known.problem, &lead.owner, number) {
         Some(other) => is_overtaken(known, lead.class, higher, dependency, other),
         None => false,
     }
@@ -232,10 +231,9 @@ fn is_overtaken(
     ensures { result ≡ is_overtaken (problem known.now) (class_view class) (class_view higher)
         (dependency_view dependency.now) (dependency_view other.now) }
 {
-    let held = known.held();
     dependency.real_name == other.real_name
-        && has_class(&held, class, dependency)
-        && has_class(&held, higher, other)
+        && has_class(&known.problem, class, dependency)
+        && has_class(&known.problem, higher, other)
         && class.is_lower(higher)
-        && has_class(&held, higher, dependency)
+        && has_class(&known.problem, higher, dependency)
 }

@@ -4,7 +4,8 @@
 //! and as a lower one for each such class: there others find it, and come by none that they give nothing with. One that
 //! is alone on its package isn't noted, else a package of n classes would take n * n notes for nothing.
 
-ghost use Rattle.std.specs.Prelude.{◌≡◌, ◌++◌, ℕ, true, Contains, IfOk, OnOk, Some, map, nat_eq, not, slice_get};
+ghost use Rattle.std.specs.Prelude.{◌≡◌, ◌++◌, ℕ, true, Contains, IfOk, OnOk, Some, map, nat_eq, not, option_map};
+ghost use Rattle.std.specs.Prelude.{slice_get};
 ghost use Rattle.std.specs.List.{flat_map, list_any};
 ghost use Rattle.classes.specs.Classes.{class_view};
 ghost use Rattle.features.specs.Views.{dependency_view, dependency_views};
@@ -23,10 +24,10 @@ use crate::called::Numbered;
 use crate::known_problem::KnownProblem;
 use crate::leading::Lead;
 use crate::newest::is_other;
-use crate::owners::{dependencies_of, dependency_in};
 use crate::possible_classes::classes_of;
 use classes::Class;
 use features::{Dependency, DependencyParts, PackageName};
+use lookups::dependencies_of;
 use std::alloc::{AllocError, Global};
 use std::collections::HashMap;
 use vertices::{OwnerRef, StateRef, VertexRef};
@@ -216,7 +217,7 @@ impl<'a> Noted<'a> {
             number,
             class,
         };
-        let all = dependencies_of(known, &owner);
+        let all = dependencies_of(&known.problem, &owner);
         match dependency_in(all, number) {
             Some(dependency) => self.note_lead(alloc, known, lead, all, dependency),
             None => Ok(Vec::new(alloc)),
@@ -256,6 +257,14 @@ impl<'a> Noted<'a> {
             .list_above(alloc, lead, name, classes.as_slice())?;
         Ok(found)
     }
+}
+
+/// The dependency of this number among all of an owner.
+fn dependency_in(dependencies: &[Dependency], number: usize) -> Option<&DependencyParts>
+    ensures { option_map (λ d. dependency_view d.now) result
+        ≡ slice_get (dependency_views dependencies.now) number }
+{
+    Some(dependencies.get(number)?)
 }
 
 /// Whether the owner, of which all dependencies are given, has another one on the package.

@@ -18,11 +18,10 @@ ghost use Rattle.vertices.specs.inner.RefViews.{owner_ref_view, state_ref_view, 
 use crate::causes::{each_once, put_needs, put_version};
 use crate::known_problem::KnownProblem;
 use crate::leading::{Lead, put_asked_lead, put_lead};
-use crate::owners::dependencies_of;
 use crate::possible_classes::classes_at;
 use classes::Class;
 use features::{FeatureName, PackageName};
-use lookups::Cause;
+use lookups::{Cause, dependencies_of};
 use semver::Version;
 use std::alloc::{AllocError, Global};
 use vertices::{OwnerRef, StateRef, VertexRef};
@@ -161,7 +160,7 @@ fn put_present<'a>(
 {
     match vertex {
         VertexRef::Root => {
-            let dependencies = dependencies_of(known, &OwnerRef::Root);
+            let dependencies = dependencies_of(&known.problem, &OwnerRef::Root);
             put_needs(causes, OwnerRef::Root, dependencies)
         }
         VertexRef::Package(_, _) => Ok(()),

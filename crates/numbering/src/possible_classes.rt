@@ -10,11 +10,11 @@ ghost use Rattle.numbering.specs.inner.TestedTerms.{is_class, lone_view};
 ghost use Rattle.vertices.specs.inner.RefViews.{owner_ref_view};
 
 use crate::known_problem::KnownProblem;
-use crate::owners::dependency_at;
 use crate::space_tests::{Lone, class_tests, no_class, state_of};
 use catalogue::catalogues_are_well_formed;
 use classes::Class;
 use features::DependencyParts;
+use lookups::dependency_at;
 use std::alloc::{AllocError, Global};
 use vertices::OwnerRef;
 
@@ -28,7 +28,7 @@ pub(crate) fn classes_at(
     ensures { IfOk result
         (λ ks. map class_view ks.items ≡ classes_at (problem known.now) (owner_ref_view owner.now) number) }
 {
-    match dependency_at(known, owner, number) {
+    match dependency_at(&known.problem, owner, number) {
         Some(dependency) => classes_of(alloc, known, dependency),
         None => Ok(Vec::new(alloc)),
     }
@@ -55,7 +55,7 @@ pub(crate) fn class_count(
 ) -> Result<usize, AllocError>
     ensures { IfOk result (λ n. n ≡ length (classes_at (problem known.now) (owner_ref_view owner.now) number)) }
 {
-    let Some(dependency) = dependency_at(known, owner, number) else {
+    let Some(dependency) = dependency_at(&known.problem, owner, number) else {
         return Ok(0);
     };
     // A copy of those that are kept would cost as much as they are, for each dependency that shares them.
@@ -89,7 +89,7 @@ pub(crate) fn class_alone<'a>(
     ensures { IfOk result (λ l. lone_view l ≡ false
         ∷ map (is_class (class_view class)) (dep_classes (problem known.now) (dependency_view dependency.now))) }
 {
-    catalogues_are_well_formed(known.manifest, known.catalogue);
+    catalogues_are_well_formed(known.problem.manifest, known.problem.catalogue);
     if let Some(classes) = known.matched.classes(dependency) {
         return Ok(class_tests(class, classes));
     }

@@ -20,7 +20,7 @@ pub fn spaces_are_small(known: &KnownProblem<'_>)
     ensures { (v : Vertex)
         → (1 ≤ length (space (problem known.now) v)) × (length (space (problem known.now) v) ≤ 65536) }
 {
-    let _ = known.catalogue.names();
+    let _ = known.problem.catalogue.names();
 }
 
 /// How many states the vertex has, absent among them.
@@ -77,7 +77,7 @@ fn versions_counted(known: &KnownProblem<'_>, name: &PackageName, class: Class) 
     ensures { result ≡ length (space (problem known.now) (pkg name.now (class_view class))) }
 {
     spaces_are_small(known);
-    class_versions(known.catalogue, name, class).len() + 1
+    class_versions(known.problem.catalogue, name, class).len() + 1
 }
 
 /// Absent, and the classes that the dependency may lead to.

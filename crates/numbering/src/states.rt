@@ -9,11 +9,10 @@ ghost use Rattle.numbering.specs.inner.KnownProblem.{problem};
 ghost use Rattle.vertices.specs.inner.RefViews.{owner_ref_view, state_ref_view, state_ref_views, vertex_ref_view};
 
 use crate::known_problem::KnownProblem;
-use crate::owners::dependency_at;
 use crate::possible_classes::{classes_at, classes_of};
 use classes::Class;
 use features::PackageName;
-use lookups::class_versions;
+use lookups::{class_versions, dependency_at};
 use semver::Version;
 use std::alloc::{AllocError, Global};
 use vertices::{OwnerRef, StateRef, VertexRef};
@@ -47,7 +46,7 @@ fn version_state<'a>(
 ) -> StateRef<'a>
     ensures { state_ref_view result ≡ state_at (problem known.now) (pkg name.now (class_view class)) number }
 {
-    let versions = class_versions(known.catalogue, name, class);
+    let versions = class_versions(known.problem.catalogue, name, class);
     version_at(versions, number)
 }
 
@@ -62,7 +61,7 @@ fn class_state<'a>(
     ensures { IfOk result
         (λ s. state_ref_view s ≡ state_at (problem known.now) (dep (owner_ref_view owner.now) dependency) number) }
 {
-    let Some(dependency) = dependency_at(known, owner, dependency) else {
+    let Some(dependency) = dependency_at(&known.problem, owner, dependency) else {
         return Ok(class_at(&[], number));
     };
     // A copy of those that are kept would cost as much as they are.
@@ -149,7 +148,7 @@ fn version_states<'a>(
     ensures { IfOk result
         (λ v. state_ref_views v.items ≡ space (problem known.now) (pkg name.now (class_view class))) }
 {
-    let states = with_versions(alloc, class_versions(known.catalogue, name, class))?;
+    let states = with_versions(alloc, class_versions(known.problem.catalogue, name, class))?;
     Ok(states)
 }
 

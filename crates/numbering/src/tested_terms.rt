@@ -20,7 +20,6 @@ ghost use Rattle.numbering.specs.inner.TestedTerms.{states_view, tested, tested_
 ghost use Rattle.vertices.specs.inner.RefViews.{owner_ref_view, vertex_ref_view};
 
 use crate::known_problem::KnownProblem;
-use crate::owners::dependency_at;
 use crate::possible_classes::{absent_alone, class_alone};
 use crate::space_tests::{
     Lone, Tests, chosen_tests, class_tests, lacking_tests, left_tests, no_class, taken_tests,
@@ -29,7 +28,8 @@ use catalogue::catalogues_are_well_formed;
 use classes::Class;
 use features::{DependencyParts, FeatureName, PackageName};
 use lookups::{
-    Cause, Problem, SymbolicTerm, are_releases, class_candidates, class_versions, symbolic_terms,
+    Cause, Problem, SymbolicTerm, are_releases, class_candidates, class_versions, dependency_at,
+    symbolic_terms,
 };
 use semver::Version;
 use std::alloc::{AllocError, Global};
@@ -51,11 +51,7 @@ pub(crate) fn terms_tested<'a>(
     ensures { IfOk result (λ v. tested_views v.items
         ≡ all_tested (problem known.now) (terms_of_cause (problem known.now) (cause_view cause.now))) }
 {
-    let problem = Problem {
-        manifest: known.manifest,
-        catalogue: known.catalogue,
-    };
-    let terms = symbolic_terms(alloc, &problem, cause)?;
+    let terms = symbolic_terms(alloc, &known.problem, cause)?;
     let mut made = Vec::with_capacity(alloc, terms.len())?;
     'terms: for term in terms.iter() {
         made.push(tested(alloc, known, *term)?)?;
@@ -131,7 +127,7 @@ fn chosen<'a>(
         (class_of (parts_of version.entry.now))) (model.version (parts_of version.entry.now) ∷ [])) }
 {
     let class = Class::of(version);
-    let versions = class_versions(known.catalogue, name, class);
+    let versions = class_versions(known.problem.catalogue, name, class);
     package_term(name, class, Tests::One(chosen_tests(version, versions)))
 }
 
@@ -145,7 +141,7 @@ fn absent<'a>(
     ensures { IfOk result (λ p. tested_view p
         ≡ tested (problem known.now) (at (model.dep (owner_ref_view owner.entry) number) (model.absent ∷ []))) }
 {
-    match dependency_at(known, &owner, number) {
+    match dependency_at(&known.problem, &owner, number) {
         Some(dependency) => {
             let lone = absent_alone(alloc, known, dependency)?;
             Ok(dependency_term(owner, number, Tests::One(lone)))
@@ -182,7 +178,7 @@ fn leads<'a>(
     ensures { IfOk result (λ p. tested_view p ≡ tested (problem known.now)
         (at (model.dep (owner_ref_view owner.entry) number) (model.in_class (class_view class) ∷ []))) }
 {
-    match dependency_at(known, &owner, number) {
+    match dependency_at(&known.problem, &owner, number) {
         Some(dependency) => leads_to(alloc, known, owner, number, dependency, class),
         None => Ok(dependency_term(owner, number, Tests::One(class_tests(class, &[])))),
     }
@@ -196,7 +192,8 @@ fn are_releases_in<'a>(
     versions: &[Version],
 ) -> bool
     requires { map parts_of versions.now
-        ≡ filter (is_of (class_view class)) (map (λ r. r.version) (candidates_at known.now.catalogue.now name.now)) }
+        ≡ filter (is_of (class_view class)) (map (λ r. r.version)
+        (candidates_at known.now.problem.catalogue.now name.now)) }
     ensures { result ≡ list_all (λ w. is_release (parts_of w)) versions.now }
 {
     if known.matched.has_releases_alone(name) {
@@ -217,7 +214,7 @@ fn left<'a>(
         (absent_or (problem known.now) (λ c. not (matched (dependency_view dependency.entry.now) c))
         (dependency_view dependency.entry.now).real_name (class_view class)))) }
 {
-    let versions = class_versions(known.catalogue, &dependency.real_name, class);
+    let versions = class_versions(known.problem.catalogue, &dependency.real_name, class);
     let are_releases = are_releases_in(known, &dependency.real_name, class, versions);
     let tests = left_tests(alloc, &dependency.requirement, versions, are_releases)?;
     Ok(package_term(&dependency.real_name, class, tests))
@@ -236,7 +233,7 @@ fn taken<'a>(
         (class_view class)) (versions_that (problem known.now) (matched (dependency_view dependency.entry.now))
         (dependency_view dependency.entry.now).real_name (class_view class)))) }
 {
-    let versions = class_versions(known.catalogue, &dependency.real_name, class);
+    let versions = class_versions(known.problem.catalogue, &dependency.real_name, class);
     let are_releases = are_releases_in(known, &dependency.real_name, class, versions);
     let tests = taken_tests(alloc, &dependency.requirement, versions, are_releases)?;
     Ok(package_term(&dependency.real_name, class, tests))
@@ -254,8 +251,8 @@ fn lacking<'a>(
         (at (model.pkg name.entry.now (class_view class)) (absent_or (problem known.now)
         (λ c. not (has_feature c.brings.features feature.now)) name.entry.now (class_view class)))) }
 {
-    catalogues_are_well_formed(known.manifest, known.catalogue);
-    let candidates = class_candidates(known.catalogue, name, class);
+    catalogues_are_well_formed(known.problem.manifest, known.problem.catalogue);
+    let candidates = class_candidates(known.problem.catalogue, name, class);
     let tests = lacking_tests(alloc, feature, candidates)?;
     Ok(package_term(name, class, Tests::Each(tests)))
 }

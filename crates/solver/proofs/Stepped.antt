@@ -24,6 +24,10 @@ unbroken_of : (q : Problem) (g : EncodedView) (t : TrailView) (es : List EntryVi
 unbroken_of q g t es answers.Selection found is = found
 unbroken_of q g t es (answers.Unsolvable id) found is = absurd is
 
+pub searched_in : (p q : Problem) (g : EncodedView) (t : TrailView) (es : List EntryView) (a : Answer) → p ≡ q
+    → HasSearched p g t es a → HasSearched q g t es a
+searched_in p q g t es a same searched = subst (λ p. HasSearched p g t es a) same searched
+
 module _ (q : Problem) (g : EncodedView) (t : TrailView) (es : List EntryView) (a : Answer) (known : IsCatalogue q)
     (searched : HasSearched q g t es a) (same : g.problem ≡ q) (steps : ℕ) (standing : length t.steps ≤ steps) where
   pub stepped : (walk : Option Content) (o : Outcome) → g.follows ≡ walk → CanFollow q walk

@@ -71,7 +71,7 @@ fn led_to<'a, S: States + Drop>(
 ) -> Result<Option<usize>, AllocError>
     requires { HasEnded known.now table.now (trail_view S.tests trail.now) }
     ensures { IfOk result (λ o. IsLed (problem known.now) (ends known.now table.now (trail_view S.tests trail.now))
-        known.now.catalogue.now (owner_ref_view owner.now) number (dependency_view dependency.now) o) }
+        known.now.problem.catalogue.now (owner_ref_view owner.now) number (dependency_view dependency.now) o) }
 {
     let Some(class) = class_at(alloc, known, table, trail, owner, number)? else {
         return Ok(None);
@@ -80,7 +80,7 @@ fn led_to<'a, S: States + Drop>(
     let Some(version) = version_at(alloc, known, table, trail, name, class)? else {
         return Ok(None);
     };
-    Ok(place_of(known.catalogue.versions(name), version))
+    Ok(place_of(known.problem.catalogue.versions(name), version))
 }
 
 /// Where dependencies of an owner lead, by number.
@@ -94,7 +94,7 @@ fn led_by<'a, S: States + Drop>(
 ) -> Result<Vec<Option<usize>>, AllocError>
     requires { HasEnded known.now table.now (trail_view S.tests trail.now) }
     ensures { IfOk result (λ v. AreLed (problem known.now) (ends known.now table.now (trail_view S.tests trail.now))
-        known.now.catalogue.now (owner_ref_view owner.now) (dependency_views dependencies.now) v.items) }
+        known.now.problem.catalogue.now (owner_ref_view owner.now) (dependency_views dependencies.now) v.items) }
 {
     let mut places = Vec::new(alloc);
     'dependencies: for (number, dependency) in dependencies.iter().enumerate() {
@@ -133,11 +133,12 @@ pub(crate) fn led_at<'a, S: States + Drop>(
     dependencies: &'a [Dependency],
 ) -> Result<Vec<Option<usize>>, AllocError>
     requires ended { HasEnded known.now table.now (trail_view S.tests trail.now) }
-    requires versions { AreMetVersions known.now.catalogue.now versions.now }
-    ensures { IfOk result (λ v. (o : Owner) → slice_get (owners_of known.now.catalogue.now versions.now) place ≡ Some o
+    requires versions { AreMetVersions known.now.problem.catalogue.now versions.now }
+    ensures { IfOk result (λ v. (o : Owner)
+        → slice_get (owners_of known.now.problem.catalogue.now versions.now) place ≡ Some o
         → AreLed (problem known.now) (ends known.now table.now (trail_view S.tests trail.now))
-        known.now.catalogue.now o (dependency_views dependencies.now) v.items) }
+        known.now.problem.catalogue.now o (dependency_views dependencies.now) v.items) }
 {
-    let owner = owner_at(known.catalogue, versions, place);
+    let owner = owner_at(known.problem.catalogue, versions, place);
     led_by(alloc, known, table, trail, &owner, dependencies)
 }

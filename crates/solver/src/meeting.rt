@@ -29,15 +29,20 @@ pub(crate) fn meet<'a, S: States + Drop>(
     requires { HasEnded known.now table.now (trail_view S.tests trail.now) }
     ensures met { IfOk result (λ m. AreMet (problem known.now)
         (LeadsTo (problem known.now) (ends known.now table.now (trail_view S.tests trail.now)))
-        (owners_of known.now.catalogue.now m.versions.keys) (node_views m.nodes.items)) }
-    ensures versions { IfOk result (λ m. AreMetVersions known.now.catalogue.now m.versions.keys) }
+        (owners_of known.now.problem.catalogue.now m.versions.keys) (node_views m.nodes.items)) }
+    ensures versions { IfOk result (λ m. AreMetVersions known.now.problem.catalogue.now m.versions.keys) }
 {
-    store_holds(known.catalogue);
+    store_holds(known.problem.catalogue);
     let mut versions = IndexSet::new(alloc);
     let mut nodes = Vec::new(alloc);
     'versions: while nodes.len() <= versions.len() {
         let place = nodes.len();
-        let brings = brings_at(known.manifest, known.catalogue, versions.as_slice(), place);
+        let brings = brings_at(
+            known.problem.manifest,
+            known.problem.catalogue,
+            versions.as_slice(),
+            place,
+        );
         let dependencies = dependencies_of(brings);
         let places = led_at(
             alloc,
@@ -48,7 +53,7 @@ pub(crate) fn meet<'a, S: States + Drop>(
             place,
             dependencies,
         )?;
-        let catalogue = known.catalogue;
+        let catalogue = known.problem.catalogue;
         let targets = targets_of(
             alloc,
             catalogue,

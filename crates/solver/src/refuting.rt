@@ -50,7 +50,7 @@ fn steps_of<'a, S: States + Drop>(
     requires founded { AreFlat (entries_view S.tests store.now) (flats_view S.tests row.now) }
     ensures { IfOk result (λ d. AreStepsOf (problem known.now) table.now (flats_view S.tests row.now) d) }
 {
-    catalogues_are_well_formed(known.manifest, known.catalogue);
+    catalogues_are_well_formed(known.problem.manifest, known.problem.catalogue);
     let mut spaces = Spaces::new(alloc);
     let mut steps = Derivation::new(alloc);
     list_by_text(alloc, known, table, row, &mut spaces, &mut steps)?;
@@ -80,7 +80,7 @@ pub fn refusal<'a, S: States + Drop>(
     ensures accepted { IfOk result (λ d. IsAccepted (problem known.now) d) }
     ensures once { IfOk result (λ d. HasNoMore (entries_view S.tests store.now) d) }
 {
-    catalogues_are_well_formed(known.manifest, known.catalogue);
+    catalogues_are_well_formed(known.problem.manifest, known.problem.catalogue);
     rows_are_accepted();
     let row = unroll(alloc, store, last)?;
     let derivation = steps_of(alloc, known, table, store, &row)?;

@@ -51,7 +51,7 @@ pub fn content<'a, S: States + Drop>(
     ensures brought { IfOk result (λ c. IsBrought (problem known.now) c) }
     ensures assigned { IfOk result (λ c. length c ≤ length (trail_view S.tests trail.now).steps) }
 {
-    catalogues_are_well_formed(known.manifest, known.catalogue);
+    catalogues_are_well_formed(known.problem.manifest, known.problem.catalogue);
     packages_are_a_graph();
     built_contents_select();
     built_roots_have_no_checksum();
@@ -59,8 +59,8 @@ pub fn content<'a, S: States + Drop>(
     let facts = facts_of(alloc, nodes.as_slice(), 0)?;
     content_of(
         alloc,
-        known.manifest,
-        known.catalogue,
+        known.problem.manifest,
+        known.problem.catalogue,
         versions.as_slice(),
         nodes.as_slice(),
         &facts,

@@ -28,7 +28,7 @@ use incompatibilities::{Id, Store};
 use lockfile::LockContent;
 use manifest::Manifest;
 use model::walks_are_unique;
-use numbering::{KnownProblem, Matched, Table};
+use numbering::{KnownProblem, Table};
 use selection::preferred;
 use std::alloc::{AllocError, Global};
 use version_sets::{States, WordStates};
@@ -74,12 +74,7 @@ pub fn solve(
     ensures axioms { IfOk result (λ s. axioms_of (derivation_of s.outcome) ≤ s.axioms) }
 {
     let default = default_name(alloc)?;
-    let known = KnownProblem {
-        manifest,
-        catalogue,
-        default: &default,
-        matched: Matched::new(alloc, manifest, catalogue),
-    };
+    let known = KnownProblem::new(alloc, manifest, catalogue, &default);
     walks_are_unique();
     catalogues_are_well_formed(manifest, catalogue);
     // Where there is one, the search decides as it says, and has nothing to go back from.
@@ -166,9 +161,9 @@ fn why_unsolvable<'a, S: States + Drop>(
     ensures unsolvable { IfOk result (λ d. IsUnsolvable (problem known.now) d) }
     ensures once { IfOk result (λ d. HasNoMore (entries_view S.tests store.now) d) }
 {
-    parts_are_valid(known.manifest, known.catalogue);
+    parts_are_valid(known.problem.manifest, known.problem.catalogue);
     instances_have_their_kinds();
-    accepted_derivations_refute(known.manifest, known.catalogue);
+    accepted_derivations_refute(known.problem.manifest, known.problem.catalogue);
     refusal(alloc, known, table, store, last)
 }
 

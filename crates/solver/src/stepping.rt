@@ -70,7 +70,7 @@ pub(crate) fn push_step<'a, S: States + Drop>(
     ensures step { OnOk result ((s : Step) × (steps.new ≡ steps.old ++ s ∷ []) × IsStepOf (problem known.now) table.now
         (flat_view S.tests flat.now) s) }
 {
-    catalogues_are_well_formed(known.manifest, known.catalogue);
+    catalogues_are_well_formed(known.problem.manifest, known.problem.catalogue);
     let said = flat.incompatibility.terms();
     spaces.list_source(alloc, known, table, steps, flat.source)?;
     spaces.list_each(alloc, known, table, steps, said)?;

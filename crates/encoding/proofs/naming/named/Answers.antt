@@ -12,4 +12,4 @@ returns c =
     c.in_ok-put_names.ensures
     ∙ ap₂ (λ a b. a ++ flat_map (of_name q) b)
     (c.in_ok-put_root.ensures ∙ ap (λ l. vertex_views l ++ of_root q) c.new-vertices.ensures.items)
-    (c.names.ensures.names ∙ names_are c.args.known.now.catalogue.now.rows)
+    (c.names.ensures.names ∙ names_are c.args.known.now.problem.catalogue.now.rows)

@@ -10,6 +10,6 @@ returns c =
     let name = c.args.name.now in
     let vs = vertex_views c.args.vertices.now.items in
     on_ok_weaker c.put_classes.result
-    (λ e. e ∙ ap (λ ws. vs ++ in_each name c.args.feature.now ws) (versions_are c.args.known.now.manifest.now
-    c.args.known.now.catalogue.now name c.versions.result.now c.versions.ensures.versions))
+    (λ e. e ∙ ap (λ ws. vs ++ in_each name c.args.feature.now ws) (versions_are c.args.known.now.problem.manifest.now
+    c.args.known.now.problem.catalogue.now name c.versions.result.now c.versions.ensures.versions))
     c.put_classes.ensures

@@ -19,8 +19,8 @@ names-preserved c =
     let here : drop i xs ≡ e ∷ left = drop_more xs i e c.names-test.true ∙ ap (λ y. y ∷ left) (sym c.name-item.is) in
     let all = vertex_views c.names.vertices.items in
     ap (λ l. l ++ flat_map f left) (c.in_ok-put_versions.ensures ∙ ap (λ vs. all
-    ++ flat_map (of_version (problem c.args.known.now) e) vs) (versions_are c.args.known.now.manifest.now
-    c.args.known.now.catalogue.now e c.versions.result.now c.versions.ensures.versions))
+    ++ flat_map (of_version (problem c.args.known.now) e) vs) (versions_are c.args.known.now.problem.manifest.now
+    c.args.known.now.problem.catalogue.now e c.versions.result.now c.versions.ensures.versions))
     ∙ append_assoc all (f e) (flat_map f left)
     ∙ ap (λ l. all ++ flat_map f l) (sym here)
     ∙ c.names.invariant

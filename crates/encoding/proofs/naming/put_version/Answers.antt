@@ -32,7 +32,7 @@ returns-in-Some c =
     ∙ map-append vertex_ref_view c.args.vertices.now.items _ ∙ ap (λ (m : Class). vs ++ pkg name m ∷ []) c.of.ensures)
     ∙ append_assoc vs (pkg name (class_of v) ∷ []) (brought s)
     ∙ ap (λ t. vs ++ (pkg name (class_of v) ∷ brought t))
-    (is_there k.catalogue.now k.manifest.now name v (said_by c.in-Some.candidate.now)
+    (is_there k.problem.catalogue.now k.problem.manifest.now name v (said_by c.in-Some.candidate.now)
     (sym (ap (option_map (λ (x : Bor Candidate). said_by x.now)) c.in-Some.is) ∙ c.candidate.ensures)))
     c.put_brought.ensures
 
@@ -48,5 +48,5 @@ returns-in-None c =
     ap vertex_views c.in_ok-push.ensures.items ∙ map-append vertex_ref_view c.args.vertices.now.items _
     ∙ ap (λ (m : Class). vs ++ pkg name m ∷ []) c.of.ensures
     ∙ ap (λ t. vs ++ (pkg name (class_of v) ∷ brought t))
-    (not_there k.catalogue.now k.manifest.now name v
+    (not_there k.problem.catalogue.now k.problem.manifest.now name v
     (sym (ap (option_map (λ (x : Bor Candidate). said_by x.now)) c.in-None.is) ∙ c.candidate.ensures))

@@ -18,12 +18,12 @@ pub axioms_at-requires : goal.axioms_at-requires
 axioms_at-requires g c =
     let q = problem_in c.args.manifest.now c.args.catalogue.now in
     let vs = vertices_of c.args.rows.now in
-    let p : problem c.known-known.result ≡ q = c.known-known.ensures.problem in
+    let p : problem c.new-known.result ≡ q = c.new-known.ensures.problem in
     let t : c.in_ok-table.table ≡ vs = c.in_ok-table.ensures
     ∙ ap (numbered []) (ap vertex_views c.as_slice.ensures.value ∙ c.in_ok-vertices.ensures)
     ∙ same_again q vs (c.requires.vertices).numbering in
     record {
-      default = c.known-known.ensures.default;
+      default = c.new-known.ensures.default;
       numbering = subst (λ (r : Problem). IsNumbering r c.in_ok-table.table) (sym p)
           (subst (IsNumbering q) (sym t) (c.requires.vertices).numbering);
       state = subst (λ (r : Problem). (v : Vertex) → slice_get c.in_ok-table.table c.args.vertex ≡ Some v
@@ -36,7 +36,7 @@ pub returns : goal.returns
 returns g c =
     let q = problem_in c.args.manifest.now c.args.catalogue.now in
     let vs = vertices_of c.args.rows.now in
-    let p : problem c.known-known.result ≡ q = c.known-known.ensures.problem in
+    let p : problem c.new-known.result ≡ q = c.new-known.ensures.problem in
     let t : c.in_ok-table.table ≡ vs = c.in_ok-table.ensures
     ∙ ap (numbered []) (ap vertex_views c.as_slice.ensures.value ∙ c.in_ok-vertices.ensures)
     ∙ same_again q vs (c.requires.vertices).numbering in
@@ -47,13 +47,13 @@ returns g c =
     let tests = g.S.States.tests in
     IfOk-weaker c.axioms_at.result
     (λ xs. (v : Vertex) → slice_get c.in_ok-table.table c.args.vertex ≡ Some v
-    → IsGivenAt (problem c.known-known.result) new
-    (v, state_at (problem c.known-known.result) v c.args.state) (given_views tests xs.items))
+    → IsGivenAt (problem c.new-known.result) new
+    (v, state_at (problem c.new-known.result) v c.args.state) (given_views tests xs.items))
     (λ xs. (v : Vertex) → slice_get vs c.args.vertex ≡ Some v
     → IsGivenAt q vs (v, state_at q v c.args.state) (given_views tests xs.items))
     (λ xs given v at.
     subst (λ (r : Problem). IsGivenAt r vs (v, state_at r v c.args.state) (given_views tests xs.items))
-    p (subst (λ (l : Numbering). IsGivenAt (problem c.known-known.result) l
-    (v, state_at (problem c.known-known.result) v c.args.state) (given_views tests xs.items)) same
+    p (subst (λ (l : Numbering). IsGivenAt (problem c.new-known.result) l
+    (v, state_at (problem c.new-known.result) v c.args.state) (given_views tests xs.items)) same
     (given v (ap (λ l. slice_get l c.args.vertex) t ∙ at))))
     c.axioms_at.ensures.given

@@ -6,10 +6,10 @@ use Rattle.guiding.proofs.numbers.version_number.Goals as goal
 
 pub returns-in_err-place : goal.returns-in_err-place
 returns-in_err-place c =
-    let i = c.args.known.now in
+    let held = c.args.known.now.problem in
     λ state. absurd (not_missing (class_view c.args.class) c.versions-versions.result.now c.below.result
     c.versions-versions.ensures.rising c.below.ensures.place
-    i.manifest.now i.catalogue.now c.args.name.now c.versions-versions.ensures.versions
+    held.manifest.now held.catalogue.now c.args.name.now c.versions-versions.ensures.versions
     (parts_of c.args.version.now) state c.in_err-place.ensures)
 
 pub overflow_cast-result : goal.overflow_cast-result
@@ -26,8 +26,8 @@ overflow_add-result c =
 
 pub returns : goal.returns
 returns c =
-    let i = c.args.known.now in
+    let held = c.args.known.now.problem in
     λ state. is_number (class_view c.args.class) c.versions-versions.result.now c.below.result
     c.versions-versions.ensures.rising c.below.ensures.place
-    i.manifest.now i.catalogue.now c.args.name.now c.versions-versions.ensures.versions
+    held.manifest.now held.catalogue.now c.args.name.now c.versions-versions.ensures.versions
     (parts_of c.args.version.now) state c.in_ok-place.place c.in_ok-place.ensures

@@ -13,8 +13,8 @@ use Rattle.numbering.proofs.instances.instance.Goals as goal
 
 pub put_all_tested-requires-clause-fit : goal.put_all_tested-requires-clause-fit
 put_all_tested-requires-clause-fit g c =
-    cause_fits c.args.known.now.manifest.now c.args.known.now.catalogue.now (cause_view c.args.cause.now)
-    (tested_views c.as_slice.result.now)
+    let held = c.args.known.now.problem in
+    cause_fits held.manifest.now held.catalogue.now (cause_view c.args.cause.now) (tested_views c.as_slice.result.now)
     c.names.ensures.store c.catalogues_are_well_formed.ensures c.requires.there
     (ap tested_views c.as_slice.ensures.value ∙ c.in_ok-tested_terms.ensures)
 

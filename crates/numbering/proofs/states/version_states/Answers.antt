@@ -7,8 +7,8 @@ use Rattle.numbering.proofs.states.version_states.Goals as goal
 
 pub returns : goal.returns
 returns c =
-    let i = c.args.known.now in
+    let held = c.args.known.now.problem in
     let vs = c.class_versions.result.now in
     c.in_ok-states.ensures
-    ∙ ap (λ ss. absent ∷ ss) (sym (map_map version parts_of vs) ∙ sym (states_here i.manifest.now i.catalogue.now
+    ∙ ap (λ ss. absent ∷ ss) (sym (map_map version parts_of vs) ∙ sym (states_here held.manifest.now held.catalogue.now
     c.args.name.now (class_view c.args.class) vs c.class_versions.ensures.versions))

@@ -8,9 +8,9 @@ use Rattle.numbering.proofs.tested_terms.chosen.Goals as goal
 
 pub returns : goal.returns
 returns c =
-    let i = c.args.known.now in
+    let held = c.args.known.now.problem in
     let v = parts_of c.args.version.now in
     c.package_term.ensures ∙ ap₂ (λ k m. (pkg c.args.name.now k, m)) c.of-class.ensures
     (c.chosen_tests.ensures
-    ∙ chosen_at i.manifest.now i.catalogue.now c.args.name.now (class_view c.of-class.result) (class_of v) v
+    ∙ chosen_at held.manifest.now held.catalogue.now c.args.name.now (class_view c.of-class.result) (class_of v) v
     c.class_versions-versions.result.now c.of-class.ensures c.class_versions-versions.ensures.versions)

@@ -6,8 +6,8 @@ use Rattle.numbering.proofs.tested_terms.lacking.Goals as goal
 
 pub returns : goal.returns
 returns c =
-    let i = c.args.known.now in
+    let held = c.args.known.now.problem in
     c.package_term.ensures ∙ ap (λ m. (pkg c.args.name.now (class_view c.args.class), m))
-    (c.in_ok-tests.ensures ∙ lacking_is i.manifest.now i.catalogue.now c.args.name.now (class_view c.args.class)
+    (c.in_ok-tests.ensures ∙ lacking_is held.manifest.now held.catalogue.now c.args.name.now (class_view c.args.class)
     c.args.feature.now c.class_candidates-candidates.result.now c.catalogues_are_well_formed.ensures
     c.class_candidates-candidates.ensures)

@@ -7,9 +7,9 @@ use Rattle.numbering.proofs.tested_terms.taken.Goals as goal
 
 pub returns : goal.returns
 returns c =
-    let i = c.args.known.now in
+    let held = c.args.known.now.problem in
     let d = dependency_view c.args.dependency.now in
     c.package_term.ensures ∙ ap (λ m. (pkg d.real_name (class_view c.args.class), m))
     ((rw c.deref.ensures at c.in_ok-tests.ensures)
-    ∙ taken_at i.manifest.now i.catalogue.now d (class_view c.args.class) (class_view c.args.class)
+    ∙ taken_at held.manifest.now held.catalogue.now d (class_view c.args.class) (class_view c.args.class)
     c.class_versions-versions.result.now refl c.class_versions-versions.ensures.versions)

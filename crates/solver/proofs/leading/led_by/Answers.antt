@@ -18,7 +18,7 @@ dependencies-preserved g c =
     let there = map_at dependency_view ds n d
     (slice_get-get_or ds n c.index-dependencies-number.result c.dependencies-test.true
     ∙ ap Some (sym (c.deref.ensures ∙ c.index-dependencies-number.is))) in
-    one_led (problem i) (ends i c.args.table.now (trail_view g.S.States.tests c.args.trail.now)) i.catalogue.now
+    one_led (problem i) (ends i c.args.table.now (trail_view g.S.States.tests c.args.trail.now)) i.problem.catalogue.now
     (owner_ref_view c.args.owner.now) (dependency_views ds) n c.dependencies.places.items c.push.new.self.items
     (dependency_view d) c.in_ok-place.place
     c.dependencies.invariant there c.in_ok-place.ensures c.in_ok-push.ensures.items

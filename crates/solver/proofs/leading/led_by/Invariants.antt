@@ -9,5 +9,5 @@ use Rattle.solver.proofs.leading.led_by.Given as goal
 -- where the dependencies so far lead
 abbrev pub invariant-dependencies : goal.invariant-dependencies
 invariant-dependencies g l =
-    LedTo (problem l.known) (ends l.known l.table (trail_view g.S.States.tests l.trail)) l.known.catalogue.now
+    LedTo (problem l.known) (ends l.known l.table (trail_view g.S.States.tests l.trail)) l.known.problem.catalogue.now
     (owner_ref_view l.owner) (dependency_views l.dependencies) l.number l.places.items

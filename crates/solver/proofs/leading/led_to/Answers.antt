@@ -13,19 +13,21 @@ use Rattle.solver.proofs.leading.led_to.Goals as goal
 pub returns-in_default : goal.returns-in_default
 returns-in_default g c =
     let i = c.args.known.now in
+    let index = i.problem.catalogue.now in
     let state = ends i c.args.table.now (trail_view g.S.States.tests c.args.trail.now) in
     let o = owner_ref_view c.args.owner.now in
-    no_class (problem i) state i.catalogue.now o c.args.number (dependency_view c.args.dependency.now) (sym {b =
+    no_class (problem i) state index o c.args.number (dependency_view c.args.dependency.now) (sym {b =
     class_if (state (dep o c.args.number))} c.in_ok-class.ensures ∙ ap (option_map class_view) c.in_default.is)
 
 pub returns-in_default-2 : goal.returns-in_default-2
 returns-in_default-2 g c =
     let i = c.args.known.now in
+    let index = i.problem.catalogue.now in
     let state = ends i c.args.table.now (trail_view g.S.States.tests c.args.trail.now) in
     let o = owner_ref_view c.args.owner.now in
     let d = dependency_view c.args.dependency.now in
     let k = class_view c.in-Some.class in
-    no_version (problem i) state i.catalogue.now o c.args.number d k (sym {b =
+    no_version (problem i) state index o c.args.number d k (sym {b =
     class_if (state (dep o c.args.number))} c.in_ok-class.ensures ∙ ap (option_map class_view) c.in-Some.is)
     (sym {b = version_if (state (pkg d.real_name k))} c.in_ok-version.ensures
     ∙ ap (option_map (λ v. parts_of v.now)) c.in_default-2.is)
@@ -33,11 +35,12 @@ returns-in_default-2 g c =
 pub returns : goal.returns
 returns g c =
     let i = c.args.known.now in
+    let index = i.problem.catalogue.now in
     let state = ends i c.args.table.now (trail_view g.S.States.tests c.args.trail.now) in
     let o = owner_ref_view c.args.owner.now in
     let d = dependency_view c.args.dependency.now in
     let k = class_view c.in-Some.class in
-    found (problem i) state i.catalogue.now o c.args.number d k (parts_of c.in-Some-2.version.now) c.versions.result.now
+    found (problem i) state index o c.args.number d k (parts_of c.in-Some-2.version.now) c.versions.result.now
     c.place_of.result c.requires.unbroken refl c.versions.ensures.versions
     (sym {b = class_if (state (dep o c.args.number))} c.in_ok-class.ensures ∙ ap (option_map class_view) c.in-Some.is)
     (sym {b = version_if (state (pkg d.real_name k))} c.in_ok-version.ensures

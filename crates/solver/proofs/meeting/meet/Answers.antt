@@ -16,8 +16,9 @@ use Rattle.solver.proofs.meeting.meet.Goals as goal
 pub versions-init : goal.versions-init
 versions-init g c =
     let i = c.args.known.now in
+    let index = i.problem.catalogue.now in
     let q = problem i in
-    begun q (LeadsTo q (ends i c.args.table.now (trail_view g.S.States.tests c.args.trail.now))) i.catalogue.now _ _
+    begun q (LeadsTo q (ends i c.args.table.now (trail_view g.S.States.tests c.args.trail.now))) index _ _
     c.new-versions.ensures.empty (ap node_views c.new-nodes.ensures.items)
 
 pub brings_at-brings-requires : goal.brings_at-brings-requires
@@ -29,6 +30,7 @@ led_at-requires-clause-versions g c = rw c.as_slice-in-versions.ensures.keys c.v
 pub targets_of-requires-clause-many : goal.targets_of-requires-clause-many
 targets_of-requires-clause-many g c =
     let i = c.args.known.now in
+    let index = i.problem.catalogue.now in
     let q = problem i in
     let st = ends i c.args.table.now (trail_view g.S.States.tests c.args.trail.now) in
     let ds = c.dependencies_of-dependencies.result.now in
@@ -37,8 +39,8 @@ targets_of-requires-clause-many g c =
     let place = c.len-place.ensures in
     let wide = c.len-in-versions.ensures.len in
     let (o, at) =
-    owner_next i.catalogue.now c.versions.versions.keys c.len-place.result (omega (arith, test, len, place, wide)) in
-    let led = c.in_ok-places.ensures o (subst (λ ks. slice_get (owners_of i.catalogue.now ks) c.len-place.result
+    owner_next index c.versions.versions.keys c.len-place.result (omega (arith, test, len, place, wide)) in
+    let led = c.in_ok-places.ensures o (subst (λ ks. slice_get (owners_of index ks) c.len-place.result
     ≡ Some o) (sym c.as_slice-in-versions.ensures.keys) at) in
     let many : length c.in_ok-places.places.items ≡ length ds = rw length-map at led.as_many in
     rw c.as_slice-in-versions-2.ensures.value many
@@ -46,6 +48,7 @@ targets_of-requires-clause-many g c =
 pub targets_of-requires-clause-there : goal.targets_of-requires-clause-there
 targets_of-requires-clause-there g c =
     let i = c.args.known.now in
+    let index = i.problem.catalogue.now in
     let q = problem i in
     let st = ends i c.args.table.now (trail_view g.S.States.tests c.args.trail.now) in
     let ds = c.dependencies_of-dependencies.result.now in
@@ -54,11 +57,11 @@ targets_of-requires-clause-there g c =
     let place = c.len-place.ensures in
     let wide = c.len-in-versions.ensures.len in
     let (o, at) =
-    owner_next i.catalogue.now c.versions.versions.keys c.len-place.result (omega (arith, test, len, place, wide)) in
-    let led = c.in_ok-places.ensures o (subst (λ ks. slice_get (owners_of i.catalogue.now ks) c.len-place.result
+    owner_next index c.versions.versions.keys c.len-place.result (omega (arith, test, len, place, wide)) in
+    let led = c.in_ok-places.ensures o (subst (λ ks. slice_get (owners_of index ks) c.len-place.result
     ≡ Some o) (sym c.as_slice-in-versions.ensures.keys) at) in
-    subst (AreThere i.catalogue.now (dependency_views ds)) (sym c.as_slice-in-versions-2.ensures.value)
-    (led_there q st i.catalogue.now o (dependency_views ds) c.in_ok-places.places.items led)
+    subst (AreThere index (dependency_views ds)) (sym c.as_slice-in-versions-2.ensures.value)
+    (led_there q st index o (dependency_views ds) c.in_ok-places.places.items led)
 
 pub versions-smaller : goal.versions-smaller
 versions-smaller g c =
@@ -72,7 +75,7 @@ versions-smaller g c =
 pub versions-preserved : goal.versions-preserved
 versions-preserved g c =
     let i = c.args.known.now in
-    let index = i.catalogue.now in
+    let index = i.problem.catalogue.now in
     let q = problem i in
     let st = ends i c.args.table.now (trail_view g.S.States.tests c.args.trail.now) in
     let old = c.versions.versions.keys in
@@ -100,11 +103,12 @@ versions-preserved g c =
 pub returns-clause-met : goal.returns-clause-met
 returns-clause-met g c =
     let i = c.args.known.now in
+    let index = i.problem.catalogue.now in
     let q = problem i in
     let test = c.versions-test.false in
     let len = c.len.ensures in
     let wide = c.len-in-versions.ensures.len in
-    all_met q (LeadsTo q (ends i c.args.table.now (trail_view g.S.States.tests c.args.trail.now))) i.catalogue.now
+    all_met q (LeadsTo q (ends i c.args.table.now (trail_view g.S.States.tests c.args.trail.now))) index
     c.versions.versions.keys (node_views c.versions.nodes.items) c.store_holds.ensures c.versions.invariant
     (rw length-map (omega (arith, test, len, wide)))
 

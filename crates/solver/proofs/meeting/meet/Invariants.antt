@@ -11,7 +11,7 @@ use Rattle.solver.proofs.meeting.meet.Given as goal
 abbrev pub invariant-versions : goal.invariant-versions
 invariant-versions g l =
     SoFar (problem l.known) (LeadsTo (problem l.known) (ends l.known l.table (trail_view g.S.States.tests l.trail)))
-    l.known.catalogue.now l.versions.keys (node_views l.nodes.items)
+    l.known.problem.catalogue.now l.versions.keys (node_views l.nodes.items)
 
 abbrev pub decreases-versions : goal.decreases-versions
 decreases-versions g l = 2 ^ 64 - length l.nodes.items

@@ -37,7 +37,7 @@ flags_of g c = record {
 
 -- the content is built of these
 built_of : (g : Over) (c : goal.After-drop-versions-inside-5 g) → IfOk c.content_of.result
-    (λ x. IsBuilt (owners_of c.args.known.now.catalogue.now c.in_ok-versions.field-0.versions.keys)
+    (λ x. IsBuilt (owners_of c.args.known.now.problem.catalogue.now c.in_ok-versions.field-0.versions.keys)
     (node_views c.in_ok-versions.field-0.nodes.items) (map (λ v. v.items) c.in_ok-facts.facts.enabled.items)
     (problem c.args.known.now) c.in_ok-facts.facts.here.items x)
 built_of g c = rw (c.as_slice-2.ensures.keys, c.as_slice-3.ensures.value) at c.content_of.ensures
