@@ -1,8 +1,8 @@
 -- What a manifest brings is of names that are names, and it has no more dependencies than there are numbers of 32 bits.
 use Rattle.std.proofs.Common.{◌≡◌, ℕ, suc, ◌+◌, ◌*◌, ◌≤◌, Bool, true, false, not, ◌||◌, cond, List, [], ◌∷◌, ◌++◌}
 use Rattle.std.proofs.Common.{length}
-use Rattle.std.proofs.Common.{map, codes, Option, Some, None, option_map, Result, Ok, Err, IfOk, IfSome, All}
-use Rattle.std.proofs.Common.{refl}
+use Rattle.std.proofs.Common.{map, codes, Option, Some, None, option_map, is_some, Result, Ok, Err, IfOk, IfSome, All}
+use Rattle.std.proofs.Common.{unwrap_or, refl}
 use Rattle.std.proofs.Common.{arith, length-append, Ordering, Less, Equal, Greater, nat_cmp, subst}
 use Rattle.std.proofs.lemmas.Bool.{leb-true}
 use Rattle.std.proofs.lemmas.List.Elements.{All-append, All-map, All-weaker}
@@ -14,6 +14,7 @@ use Rattle.toml.specs.Data.{Data, string, integer, float, boolean, datetime, arr
 use Rattle.toml.specs.Data.{get_member}
 use Rattle.toml.specs.Data.{Items, no_items, item, Members, no_members, member}
 use Rattle.toml.specs.Parse.{parse_document}
+use Rattle.semver.specs.Parse.{req_of}
 use Rattle.model.specs.Content.{of_utf8}
 use Rattle.model.specs.Outcome.{◌>>=◌, guard}
 use Rattle.model.specs.Summary as model
@@ -31,8 +32,8 @@ use Rattle.features.proofs.ValidLemmas.{entry-valid, built-valid}
 use Rattle.manifest.specs.Values as values
 use Rattle.manifest.specs.Values.{Shaped, wanted, if_there, or_absent, text_of, flag_of, has_key, one_of}
 use Rattle.manifest.specs.Values.{package_name_of, feature_name_of}
-use Rattle.manifest.specs.Dependencies.{DependencyShapeView, bare, inherited, unsupported_in}
-use Rattle.manifest.specs.Dependencies.{source_of, real_name_of, named_feature, feature_names, feature_list}
+use Rattle.manifest.specs.Dependencies.{DependencyShapeView, detailed, unsupported_in}
+use Rattle.manifest.specs.Dependencies.{real_name_of, named_feature, feature_names, feature_list}
 use Rattle.manifest.specs.Dependencies.{default_features_in, may_be_optional, dependency_in, described, dependency_of}
 use Rattle.manifest.specs.Dependencies.{dependencies_in, part_of, section_at, section_of, sections_of, targets_in}
 use Rattle.manifest.specs.Dependencies.{targets_of}
@@ -40,13 +41,14 @@ use Rattle.manifest.specs.Packages.{package_of, workspace_of, is_written}
 use Rattle.manifest.specs.Shapes.{strong, root_entry, entries_in, feature_of, features_in, features_of}
 use Rattle.manifest.specs.Shapes.{all_dependencies}
 use Rattle.manifest.specs.Shapes.{ShapeView, shape_of}
-use Rattle.manifest.specs.Manifests.{ManifestView, sources_allowed, requirement_of, dependency_with, dependencies_of}
+use Rattle.manifest.specs.Manifests.{ManifestView, sources_allowed, requirement_or, dependency_with, dependencies_of}
 use Rattle.manifest.specs.Manifests.{dep_name, table_or_fault, features_with, manifest_of, limit}
 use Rattle.manifest.specs.declared.fault.ManifestFault.{ManifestFault}
 use Rattle.manifest.specs.declared.fault.ManifestFault.TheVariants.{Shape, UnsupportedSource}
 use Rattle.manifest.specs.declared.fault.Part.{Part}
 use Rattle.manifest.specs.declared.fault.Part.TheVariants as part
-use Rattle.manifest.specs.declared.fault.Unsupported.TheVariants.{Workspace}
+use Rattle.manifest.specs.declared.fault.Unsupported.{Unsupported}
+use Rattle.manifest.specs.declared.fault.Unsupported.TheVariants.{Patch, Replace, Workspace}
 use Rattle.manifest.specs.declared.section.SectionPlace.{SectionPlace}
 use Rattle.manifest.specs.declared.section.SectionPlace.TheVariants.{Top, Target}
 
@@ -100,7 +102,7 @@ names-named p (item d ds) = past (All IsFeatureName) (text_of p d) _ (λ text.
 -- ---- dependencies as they are written
 
 abbrev IsNamed : DependencyShapeView → Type 0
-IsNamed d = IsPackageName d.name × All IsFeatureName d.features
+IsNamed d = IsPackageName (d.parts).name × All IsFeatureName (d.parts).features
 
 -- so many at most, and each of names
 record AreFew (most : ℕ) (ds : List DependencyShapeView) : Type 0 where
@@ -120,27 +122,34 @@ list-named : (p : Part) (o : Option Data) → IfOk (or_absent [] (feature_list p
 list-named p None = all_none IsFeatureName
 list-named p (Some d) = past (All IsFeatureName) (wanted p (as_array d)) (feature_names p) (names-named p)
 
-table-named : (p : Part) (kind : DependencyKind) (name : List ℕ) (t : Members) → IsPackageName name
-    → IfOk (dependency_in p kind name t) IsNamed
-unfolding dependency_in
-table-named p kind name t h =
-    past IsNamed (if_there (text_of p) (get_member (codes "version") t)) _ (λ version.
-    past IsNamed (source_of p (unsupported_in t) version) _ (λ from.
+detailed-named : (p : Part) (kind : DependencyKind) (name text : List ℕ) (s : Option Unsupported) (t : Members)
+    → IsPackageName name → IfOk (detailed p kind name text s t) IsNamed
+unfolding detailed
+detailed-named p kind name text s t h =
     past IsNamed (if_there (text_of p) (get_member (codes "package") t)) _ (λ given.
     past IsNamed (real_name_of p name given) _ (λ real_name.
     past IsNamed (or_absent false (flag_of p) (get_member (codes "optional") t)) _ (λ optional.
     past IsNamed (guard (not optional || may_be_optional kind) (Shape p)) _ (λ allowed.
     past IsNamed (default_features_in p t) _ (λ default_features.
     after (All IsFeatureName) IsNamed (or_absent [] (feature_list p) (get_member (codes "features") t)) _
-    (list-named p (get_member (codes "features") t)) (λ features g. (h, g)))))))))
+    (list-named p (get_member (codes "features") t)) (λ features g. (h, g)))))))
+
+table-named : (p : Part) (kind : DependencyKind) (name : List ℕ) (t : Members) → IsPackageName name
+    → IfOk (dependency_in p kind name t) IsNamed
+unfolding dependency_in
+table-named p kind name t h =
+    past IsNamed (if_there (text_of p) (get_member (codes "version") t)) _ (λ version.
+    past IsNamed (guard (is_some version || is_some (unsupported_in t)) (Shape p)) _ (λ described.
+    detailed-named p kind name (unwrap_or version []) (unsupported_in t) t h))
 
 described-named : (p : Part) (kind : DependencyKind) (name : List ℕ) (d : Data) → IsPackageName name
     → IfOk (described p kind name d) IsNamed
-described-named p kind name (string text) h = (h, all_none IsFeatureName)
+described-named p kind name (string text) h = detailed-named p kind name text None no_members h
 described-named p kind name (table t) h = by (has_key (codes "workspace") t)
   where
-    by : (b : Bool) → IfOk (cond b (Ok (bare name inherited)) (dependency_in p kind name t)) IsNamed
-    by true = (h, all_none IsFeatureName)
+    by : (b : Bool)
+        → IfOk (cond b (detailed p kind name [] (Some Workspace) no_members) (dependency_in p kind name t)) IsNamed
+    by true = detailed-named p kind name [] (Some Workspace) no_members h
     by false = table-named p kind name t h
 described-named p kind name (integer z) h = tt
 described-named p kind name (float x) h = tt
@@ -340,7 +349,7 @@ record AreFewRead (n : ℕ) (ds : List model.Dependency) : Type 0 where
 
 read-named : (d : DependencyShapeView) → IsNamed d → IfOk (dependency_with d) IsNamedRead
 unfolding dependency_with
-read-named d h = past IsNamedRead (requirement_of d.name d.source) _ (λ requirement. h)
+read-named d h = past IsNamedRead (requirement_or (d.parts).name (req_of d.text)) _ (λ requirement. h)
 
 all-read : (ds : List DependencyShapeView) → All IsNamed ds → IfOk (dependencies_of ds) (AreFewRead (length ds))
 unfolding dependencies_of
@@ -373,8 +382,10 @@ top-valid : (top : Members) → 6 * members_size top ≤ 4294967296 → IfOk (ma
 unfolding manifest_of
 top-valid top small =
     after (IsValidShape (6 * members_size top)) Brings (shape_of top) _ (shape-valid top) (λ shape s.
-    past Brings (sources_allowed shape) _ (λ allowed.
+    past Brings (guard (not shape.patches) (UnsupportedSource Patch)) _ (λ unpatched.
+    past Brings (guard (not shape.replaces) (UnsupportedSource Replace)) _ (λ unreplaced.
     past Brings (ok_or shape.own (UnsupportedSource Workspace)) _ (λ own.
+    past Brings (sources_allowed shape.has_members shape.dependencies) _ (λ allowed.
     after (AreFewRead (length shape.dependencies)) Brings (dependencies_of shape.dependencies) _
     (all-read shape.dependencies s.dependencies.named) (λ dependencies d.
     after (All IsValidRow) Brings (features_with dependencies shape.features) _
@@ -383,7 +394,7 @@ top-valid top small =
       few = omega (arith, d.few, s.dependencies.few, small);
       dependencies = All-weaker IsNamedRead IsValidDependency (λ x h. h.1) dependencies d.named;
       features = f;
-    })))))
+    })))))))
 
 -- what a table of at most 1 MiB says as a manifest brings valid parts
 pub document-valid : (bytes : List ℕ) (top : Members) → length bytes ≤ limit → of_utf8 parse_document bytes ≡ Some top

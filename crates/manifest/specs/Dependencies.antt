@@ -1,9 +1,10 @@
 -- The dependencies that a manifest writes, before their requirements are read (Cargo book, "Specifying Dependencies").
 use Rattle.std.specs.Prelude.{ℕ, Bool, true, false, not, ◌||◌, if◌then◌else◌, List, [], ◌∷◌, ◌++◌, Option, Some, None}
-use Rattle.std.specs.Prelude.{Ok, Err, codes}
+use Rattle.std.specs.Prelude.{Ok, Err, codes, is_some, unwrap_or}
 use Rattle.toml.specs.Data.{Data, string, integer, float, boolean, datetime, array, table, as_array, get_member, Items}
 use Rattle.toml.specs.Data.{no_items, item, Members, no_members, member}
 use Rattle.model.specs.Outcome.{◌>>=◌, guard}
+use Rattle.model.specs.Summary.{Dependency}
 use Rattle.features.specs.declared.dependency.DependencyKind.{DependencyKind}
 use Rattle.features.specs.declared.dependency.DependencyKind.TheVariants.{Normal, Dev, Build}
 use Rattle.manifest.specs.Values.{Shaped, wanted, if_there, or_absent, text_of, flag_of, table_of, has_key, either_at}
@@ -16,24 +17,11 @@ use Rattle.manifest.specs.declared.fault.Unsupported.TheVariants as source
 use Rattle.manifest.specs.declared.section.SectionPlace.{SectionPlace}
 use Rattle.manifest.specs.declared.section.SectionPlace.TheVariants.{Top, Target}
 
--- where a dependency is from: the registry, with the text of its requirement, or a source that is unsupported
-pub data SourceView : Type 0 where
-  registry : List ℕ → SourceView
-  unsupported : Unsupported → SourceView
-
--- a dependency, with its requirement as it is written
+-- a dependency with the text of its requirement: this is still to be read, and its own is empty
 pub record DependencyShapeView : Type 0 where
-  pub name : List ℕ
-  pub real_name : List ℕ
-  pub source : SourceView
-  pub optional : Bool
-  pub default_features : Bool
-  pub features : List (List ℕ)
-
--- a dependency of which no more is said than where it is from
-abbrev pub bare : List ℕ → SourceView → DependencyShapeView
-bare name from =
-    record { name = name; real_name = name; source = from; optional = false; default_features = true; features = [] }
+  pub parts : Dependency
+  pub text : List ℕ
+  pub unsupported : Option Unsupported
 
 -- the first source that is unsupported and that a key of the dependency asks for
 abbrev pub unsupported_in : Members → Option Unsupported
@@ -42,12 +30,6 @@ unsupported_in t = if has_key (codes "git") t then Some source.Git
     else if has_key (codes "registry") t then Some source.Registry
     else if has_key (codes "registry-index") t then Some source.Registry
     else None
-
--- only a dependency of such a source may lack a version
-abbrev pub source_of : Part → Option Unsupported → Option (List ℕ) → Shaped SourceView
-source_of p (Some s) version = Ok (unsupported s)
-source_of p None (Some text) = Ok (registry text)
-source_of p None None = Err (Shape p)
 
 -- the name of the package that a dependency means: `package`, where it is there
 abbrev pub real_name_of : Part → List ℕ → Option (List ℕ) → Shaped (List ℕ)
@@ -82,11 +64,10 @@ may_be_optional Normal = true
 may_be_optional Dev = false
 may_be_optional Build = true
 
--- a dependency that is written as a table
-unfoldable pub dependency_in : Part → DependencyKind → List ℕ → Members → Shaped DependencyShapeView
-dependency_in p kind name t = do
-  version ← if_there (text_of p) (get_member (codes "version") t)
-  from ← source_of p (unsupported_in t) version
+-- a dependency with this text, and what a table says more of it
+unfoldable pub detailed : Part → DependencyKind → List ℕ → List ℕ → Option Unsupported → Members
+    → Shaped DependencyShapeView
+detailed p kind name text unsupported t = do
   given ← if_there (text_of p) (get_member (codes "package") t)
   real_name ← real_name_of p name given
   optional ← or_absent false (flag_of p) (get_member (codes "optional") t)
@@ -94,23 +75,30 @@ dependency_in p kind name t = do
   default_features ← default_features_in p t
   features ← or_absent [] (feature_list p) (get_member (codes "features") t)
   Ok (record {
-    name = name;
-    real_name = real_name;
-    source = from;
-    optional = optional;
-    default_features = default_features;
-    features = features;
+    parts = record {
+      name = name;
+      real_name = real_name;
+      requirement = [];
+      optional = optional;
+      default_features = default_features;
+      features = features;
+    };
+    text = text;
+    unsupported = unsupported;
   })
 
--- the source of a dependency that a workspace describes
-abbrev pub inherited : SourceView
-inherited = unsupported source.Workspace
+-- a dependency that is written as a table: only one of an unsupported source may lack a version
+unfoldable pub dependency_in : Part → DependencyKind → List ℕ → Members → Shaped DependencyShapeView
+dependency_in p kind name t = do
+  version ← if_there (text_of p) (get_member (codes "version") t)
+  described ← guard (is_some version || is_some (unsupported_in t)) (Shape p)
+  detailed p kind name (unwrap_or version []) (unsupported_in t) t
 
--- a dependency: a requirement or a table
+-- a dependency: a requirement or a table, in which a workspace may describe it
 abbrev pub described : Part → DependencyKind → List ℕ → Data → Shaped DependencyShapeView
-described p kind name (string text) = Ok (bare name (registry text))
-described p kind name (table t) =
-    if has_key (codes "workspace") t then Ok (bare name inherited) else dependency_in p kind name t
+described p kind name (string text) = detailed p kind name text None no_members
+described p kind name (table t) = if has_key (codes "workspace") t
+    then detailed p kind name [] (Some source.Workspace) no_members else dependency_in p kind name t
 described p kind name (integer z) = Err (Shape p)
 described p kind name (float x) = Err (Shape p)
 described p kind name (boolean b) = Err (Shape p)

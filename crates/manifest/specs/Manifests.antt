@@ -1,7 +1,7 @@
 -- What a manifest says: a function of its bytes, or the first fault (Cargo book, "The Manifest Format", "Specifying
 -- Dependencies" and "Features").
 use Rattle.std.specs.Prelude.{ℕ, Bool, true, false, not, ◌||◌, List, [], ◌∷◌, map, Option, Result}
-use Rattle.std.specs.Prelude.{Ok, Err, length, nat_le, is_none}
+use Rattle.std.specs.Prelude.{Some, None, Ok, Err, length, nat_le}
 use Rattle.std.specs.List.{list_any, flat_map}
 use Rattle.std.specs.Option.{ok_or}
 use Rattle.toml.specs.Data.{Members}
@@ -13,8 +13,8 @@ use Rattle.model.specs.Content.{of_utf8}
 use Rattle.model.specs.Summary.{Dependency, Summary, Entry, feature, dependency, dependency_feature, weak_feature}
 use Rattle.model.specs.Summary.{Table}
 use Rattle.model.specs.Tables.{DepName, TableFault, no_such_feature, no_such_dependency, not_optional, table_of}
-use Rattle.manifest.specs.Dependencies.{SourceView, registry, unsupported, DependencyShapeView}
-use Rattle.manifest.specs.Shapes.{ShapeView, shape_of}
+use Rattle.manifest.specs.Dependencies.{DependencyShapeView}
+use Rattle.manifest.specs.Shapes.{shape_of}
 use Rattle.manifest.specs.declared.fault.ManifestFault.{ManifestFault}
 use Rattle.manifest.specs.declared.fault.ManifestFault.TheVariants.{TooLarge, NotToml, UnsupportedSource}
 use Rattle.manifest.specs.declared.fault.ManifestFault.TheVariants.{BadRequirement, RootFeature}
@@ -40,27 +40,21 @@ same_source Path Path = true
 same_source Registry Registry = true
 same_source a b = false
 
-abbrev pub is_from : Unsupported → SourceView → Bool
-is_from s (registry text) = false
-is_from s (unsupported t) = same_source s t
+abbrev pub is_from : Unsupported → Option Unsupported → Bool
+is_from s None = false
+is_from s (Some t) = same_source s t
 
 -- some dependency is from this source
 abbrev pub uses : Unsupported → List DependencyShapeView → Bool
-uses s ds = list_any (λ d. is_from s d.source) ds
+uses s ds = list_any (λ d. is_from s d.unsupported) ds
 
--- a workspace has members, or has to say what the package or a dependency is
-abbrev pub needs_workspace : ShapeView → Bool
-needs_workspace shape = shape.has_members || (is_none shape.own || uses Workspace shape.dependencies)
-
--- the first source, in this order, that is unsupported and is asked for
-unfoldable pub sources_allowed : ShapeView → Result (Unit {0}) ManifestFault
-sources_allowed shape = do
-  unpatched ← guard (not shape.patches) (UnsupportedSource Patch)
-  unreplaced ← guard (not shape.replaces) (UnsupportedSource Replace)
-  alone ← guard (not (needs_workspace shape)) (UnsupportedSource Workspace)
-  no_git ← guard (not (uses Git shape.dependencies)) (UnsupportedSource Git)
-  no_path ← guard (not (uses Path shape.dependencies)) (UnsupportedSource Path)
-  guard (not (uses Registry shape.dependencies)) (UnsupportedSource Registry)
+-- no workspace has members, and each dependency is from the registry; or the first source, in this order, that isn't
+unfoldable pub sources_allowed : Bool → List DependencyShapeView → Result (Unit {0}) ManifestFault
+sources_allowed has_members ds = do
+  alone ← guard (not (has_members || uses Workspace ds)) (UnsupportedSource Workspace)
+  no_git ← guard (not (uses Git ds)) (UnsupportedSource Git)
+  no_path ← guard (not (uses Path ds)) (UnsupportedSource Path)
+  guard (not (uses Registry ds)) (UnsupportedSource Registry)
 
 -- ---- requirements
 
@@ -68,23 +62,11 @@ abbrev pub requirement_or : List ℕ → Result (List Held) Error → Result (Li
 requirement_or name (Ok r) = Ok r
 requirement_or name (Err e) = Err (BadRequirement name)
 
--- the requirement of a dependency; one from elsewhere is a fault before
-abbrev pub requirement_of : List ℕ → SourceView → Result (List Held) ManifestFault
-requirement_of name (registry text) = requirement_or name (req_of text)
-requirement_of name (unsupported s) = Err (UnsupportedSource s)
-
 -- a dependency with its requirement read
 unfoldable pub dependency_with : DependencyShapeView → Result Dependency ManifestFault
 dependency_with d = do
-  requirement ← requirement_of d.name d.source
-  Ok (record {
-    name = d.name;
-    real_name = d.real_name;
-    requirement = requirement;
-    optional = d.optional;
-    default_features = d.default_features;
-    features = d.features;
-  })
+  requirement ← requirement_or (d.parts).name (req_of d.text)
+  Ok (record (d.parts) { requirement = requirement })
 
 -- the dependencies by number, with their requirements read
 unfoldable pub dependencies_of : List DependencyShapeView → Result (List Dependency) ManifestFault
@@ -135,8 +117,10 @@ table_of_bytes bytes = ok_or (of_utf8 parse_document bytes) NotToml
 unfoldable pub manifest_of : Members → Result ManifestView ManifestFault
 manifest_of top = do
   shape ← shape_of top
-  allowed ← sources_allowed shape
+  unpatched ← guard (not shape.patches) (UnsupportedSource Patch)
+  unreplaced ← guard (not shape.replaces) (UnsupportedSource Replace)
   own ← ok_or shape.own (UnsupportedSource Workspace)
+  allowed ← sources_allowed shape.has_members shape.dependencies
   dependencies ← dependencies_of shape.dependencies
   features ← features_with dependencies shape.features
   Ok (record {

@@ -1,17 +1,17 @@
 //! The dependencies that a manifest writes, before their requirements are read.
 
-ghost use Rattle.std.specs.Prelude.{◌≡◌, ◌++◌, [], codes, option_map};
-ghost use Rattle.toml.specs.Data.{get_member};
+ghost use Rattle.std.specs.Prelude.{◌≡◌, ◌||◌, ◌++◌, [], codes, is_some, option_map};
+ghost use Rattle.toml.specs.Data.{get_member, no_members};
 ghost use Rattle.toml.specs.View.{view, table_view, array_view};
 ghost use Rattle.model.specs.Outcome.{Gives};
 ghost use Rattle.manifest.specs.Faults.{wants_memory};
 ghost use Rattle.manifest.specs.Manifests.{is_from};
 ghost use Rattle.manifest.specs.Values.{or_absent};
-ghost use Rattle.manifest.specs.Dependencies.{bare, registry, unsupported_in, source_of, real_name_of};
+ghost use Rattle.manifest.specs.Dependencies.{unsupported_in, real_name_of, detailed};
 ghost use Rattle.manifest.specs.Dependencies.{may_be_optional, feature_names, feature_list, default_features_in};
 ghost use Rattle.manifest.specs.Dependencies.{dependency_in};
 ghost use Rattle.manifest.specs.Dependencies.{described, dependency_of, dependencies_in};
-ghost use Rattle.manifest.specs.inner.ShapeViews.{source_view, dependency_view, dependency_views};
+ghost use Rattle.manifest.specs.inner.ShapeViews.{dependency_view, dependency_views};
 
 use crate::check::check;
 use crate::fault::{ManifestFault, Part, Unsupported};
@@ -21,15 +21,6 @@ use std::alloc::Global;
 use tables::{has_key, member};
 use toml::value::{Array, Table, Value};
 
-/// Where a dependency is from.
-#[derive(Clone, Copy)]
-pub(crate) enum DependencySource<'a> {
-    /// The registry, with the text of the requirement.
-    Registry(&'a str),
-    /// A source that is unsupported: the first that its keys ask for.
-    Unsupported(Unsupported),
-}
-
 /// A dependency with its requirement as it is written.
 #[derive(Drop)]
 pub(crate) struct DependencyShape<'a> {
@@ -37,7 +28,10 @@ pub(crate) struct DependencyShape<'a> {
     pub name: PackageName,
     /// The name of the package that it means.
     pub real_name: PackageName,
-    pub source: DependencySource<'a>,
+    /// Empty where none is written.
+    pub requirement: &'a str,
+    /// The first source that is unsupported and that its keys ask for.
+    pub unsupported: Option<Unsupported>,
     pub optional: bool,
     pub default_features: bool,
     pub features: Vec<FeatureName>,
@@ -46,11 +40,11 @@ pub(crate) struct DependencyShape<'a> {
 impl DependencyShape<'_> {
     /// Whether it is from this source.
     pub(crate) fn is_from(&self, source: Unsupported) -> bool
-        ensures { result ≡ is_from source (source_view self.now.source) }
+        ensures { result ≡ is_from source self.now.unsupported }
     {
-        match self.source {
-            DependencySource::Registry(_) => false,
-            DependencySource::Unsupported(own) => own == source,
+        match self.unsupported {
+            None => false,
+            Some(own) => own == source,
         }
     }
 }
@@ -99,14 +93,10 @@ fn described<'a>(
     ensures { Gives wants_memory dependency_view result (described part kind name (view value.now)) }
 {
     match value {
-        Value::String(text) => bare(alloc, name, DependencySource::Registry(text.as_str())),
+        Value::String(text) => bare(alloc, name, text.as_str(), None, part, kind),
         Value::Table(table) => {
             if has_key(table, "workspace") {
-                bare(
-                    alloc,
-                    name,
-                    DependencySource::Unsupported(Unsupported::Workspace),
-                )
+                bare(alloc, name, "", Some(Unsupported::Workspace), part, kind)
             } else {
                 dependency_in(alloc, name, table, part, kind)
             }
@@ -115,26 +105,32 @@ fn described<'a>(
     }
 }
 
-/// A dependency of which no more is said than where it is from.
-fn bare(
+/// A dependency of which no more is said than its requirement or its source.
+#[tactic(auto, unfolding(crate::specs::Dependencies::detailed))]
+fn bare<'a>(
     alloc: Global,
     name: PackageName,
-    source: DependencySource<'_>,
-) -> Result<DependencyShape<'_>, ManifestFault>
-    ensures { Gives wants_memory dependency_view result (Ok (bare name (source_view source.entry))) }
+    requirement: &'a str,
+    unsupported: Option<Unsupported>,
+    part: Part,
+    kind: DependencyKind,
+) -> Result<DependencyShape<'a>, ManifestFault>
+    ensures { Gives wants_memory dependency_view result
+        (detailed part kind name requirement.now unsupported no_members) }
 {
     let real_name = name.clone()?;
     Ok(DependencyShape {
         name,
         real_name,
-        source,
+        requirement,
+        unsupported,
         optional: false,
         default_features: true,
         features: Vec::new(alloc),
     })
 }
 
-/// A dependency that is written as a table.
+/// A dependency that is written as a table: only one of an unsupported source may lack a version.
 #[tactic(auto, unfolding(crate::specs::Dependencies::dependency_in))]
 fn dependency_in<'a>(
     alloc: Global,
@@ -146,7 +142,36 @@ fn dependency_in<'a>(
     ensures { Gives wants_memory dependency_view result (dependency_in part kind name (table_view table.now)) }
 {
     let version = text_at(table, "version", part)?;
-    let source = dependency_source(unsupported_in(table), version, part)?;
+    let unsupported = unsupported_in(table);
+    check(
+        is_described(version, unsupported),
+        ManifestFault::Shape(part),
+    )?;
+    detailed(
+        alloc,
+        name,
+        version.unwrap_or(""),
+        unsupported,
+        table,
+        part,
+        kind,
+    )
+}
+
+/// A dependency with this requirement, and what else a table says of it.
+#[tactic(auto, unfolding(crate::specs::Dependencies::detailed))]
+fn detailed<'a>(
+    alloc: Global,
+    name: PackageName,
+    requirement: &'a str,
+    unsupported: Option<Unsupported>,
+    table: &Table,
+    part: Part,
+    kind: DependencyKind,
+) -> Result<DependencyShape<'a>, ManifestFault>
+    ensures { Gives wants_memory dependency_view result
+        (detailed part kind name requirement.now unsupported (table_view table.now)) }
+{
     let given = text_at(table, "package", part)?;
     let real_name = real_name(alloc, &name, given, part)?;
     let optional = flag(member(table, "optional"), false, part)?;
@@ -159,11 +184,22 @@ fn dependency_in<'a>(
     Ok(DependencyShape {
         name,
         real_name,
-        source,
+        requirement,
+        unsupported,
         optional,
         default_features,
         features,
     })
+}
+
+/// Whether a dependency has a version, or else a source that is unsupported.
+fn is_described(version: Option<&str>, unsupported: Option<Unsupported>) -> bool
+    ensures { result ≡ (is_some (option_map (λ s. s.now) version.entry) || is_some unsupported) }
+{
+    match version {
+        Some(_) => true,
+        None => unsupported.is_some(),
+    }
 }
 
 /// Whether a dependency of this kind may be optional.
@@ -198,24 +234,6 @@ pub fn unsupported_in(table: &Table) -> Option<Unsupported>
         Some(Unsupported::Registry)
     } else {
         None
-    }
-}
-
-/// Only a dependency of such a source may lack a version.
-fn dependency_source(
-    unsupported: Option<Unsupported>,
-    version: Option<&str>,
-    part: Part,
-) -> Result<DependencySource<'_>, ManifestFault>
-    ensures { Gives wants_memory source_view result
-        (source_of part unsupported (option_map (λ s. s.now) version.entry)) }
-{
-    match unsupported {
-        Some(unsupported) => Ok(DependencySource::Unsupported(unsupported)),
-        None => match version {
-            Some(text) => Ok(DependencySource::Registry(text)),
-            None => Err(ManifestFault::Shape(part)),
-        },
     }
 }
 

@@ -10,12 +10,12 @@ ghost use Rattle.classes.specs.Classes.{rust_version_view};
 ghost use Rattle.features.specs.inner.Valid.{BringsValid};
 ghost use Rattle.features.specs.Views.{dependency_view, dependency_views, summary_view};
 ghost use Rattle.manifest.specs.Faults.{wants_memory};
-ghost use Rattle.manifest.specs.Manifests.{uses, needs_workspace, sources_allowed, dependency_with, dependencies_of};
+ghost use Rattle.manifest.specs.Manifests.{uses, sources_allowed, dependency_with, dependencies_of};
 ghost use Rattle.manifest.specs.Manifests.{manifest_of, manifest_of_bytes};
 ghost use Rattle.manifest.specs.inner.ShapeViews as shaped;
 
 use crate::check::check;
-use crate::dependency::{DependencyShape, DependencySource};
+use crate::dependency::DependencyShape;
 use crate::fault::{ManifestFault, Unsupported};
 use crate::root_features::root_features;
 use crate::shape::{Shape, read_shape};
@@ -135,16 +135,19 @@ fn manifest_in(alloc: Global, top: &Table) -> Result<Manifest, ManifestFault>
     ensures { Gives wants_memory (λ m. m) result (manifest_of (table_view top.now)) }
 {
     let shape = read_shape(alloc, top)?;
-    check_sources(&shape)?;
+    allow(!shape.patches, Unsupported::Patch)?;
+    allow(!shape.replaces, Unsupported::Replace)?;
     let Shape {
         own,
         dependencies,
         features,
+        has_members,
         ..
     } = shape;
     let Some(package) = own else {
         return Err(ManifestFault::UnsupportedSource(Unsupported::Workspace));
     };
+    check_sources(has_members, dependencies.as_slice())?;
     let dependencies = requirements(alloc, dependencies)?;
     let features = root_features(alloc, dependencies.as_slice(), features)?;
     Ok(Manifest {
@@ -158,15 +161,20 @@ fn manifest_in(alloc: Global, top: &Table) -> Result<Manifest, ManifestFault>
     })
 }
 
-/// The first source, in the order of `Unsupported`, that is unsupported and is asked for.
+/// The workspace has no members, and each dependency is from the registry; or the first source, in the order of
+/// `Unsupported`, that isn't.
 #[tactic(auto, unfolding(crate::specs::Manifests::sources_allowed))]
-fn check_sources(shape: &Shape<'_>) -> Result<(), ManifestFault>
-    ensures { Gives wants_memory (λ u. u) result (sources_allowed (shaped.shape_view shape.now)) }
+fn check_sources(
+    has_members: bool,
+    dependencies: &[DependencyShape<'_>],
+) -> Result<(), ManifestFault>
+    ensures { Gives wants_memory
+        (λ u. u) result (sources_allowed has_members (shaped.dependency_views dependencies.now)) }
 {
-    let dependencies = shape.dependencies.as_slice();
-    allow(!shape.patches, Unsupported::Patch)?;
-    allow(!shape.replaces, Unsupported::Replace)?;
-    allow(!needs_workspace(shape), Unsupported::Workspace)?;
+    allow(
+        !(has_members || uses(dependencies, Unsupported::Workspace)),
+        Unsupported::Workspace,
+    )?;
     allow(!uses(dependencies, Unsupported::Git), Unsupported::Git)?;
     allow(!uses(dependencies, Unsupported::Path), Unsupported::Path)?;
     allow(
@@ -187,15 +195,6 @@ fn uses(dependencies: &[DependencyShape<'_>], source: Unsupported) -> bool
     dependencies.iter().any(|d| d.is_from(source))
 }
 
-/// Whether a workspace has members, or has to say what the package or a dependency is.
-fn needs_workspace(shape: &Shape<'_>) -> bool
-    ensures { result ≡ needs_workspace (shaped.shape_view shape.now) }
-{
-    shape.has_members
-        || shape.own.is_none()
-        || uses(shape.dependencies.as_slice(), Unsupported::Workspace)
-}
-
 /// The dependencies by number, with their requirements read.
 #[tactic(auto, unfolding(crate::specs::Manifests::dependencies_of))]
 fn requirements(
@@ -212,18 +211,12 @@ fn requirements(
     Ok(found)
 }
 
-/// A dependency with its requirement read. One of a source that is unsupported is a fault before.
+/// A dependency with its requirement read.
 #[tactic(auto, unfolding(crate::specs::Manifests::dependency_with))]
 fn with_requirement(alloc: Global, shape: DependencyShape<'_>) -> Result<Dependency, ManifestFault>
     ensures { Gives wants_memory dependency_view result (dependency_with (shaped.dependency_view shape.entry)) }
 {
-    let text = match shape.source {
-        DependencySource::Registry(text) => text,
-        DependencySource::Unsupported(source) => return Err(ManifestFault::UnsupportedSource(
-            source,
-        )),
-    };
-    match VersionReq::parse(alloc, text) {
+    match VersionReq::parse(alloc, shape.requirement) {
         Ok(requirement) => Ok(Dependency::new(
             alloc,
             DependencyParts {

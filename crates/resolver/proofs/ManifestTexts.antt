@@ -1,12 +1,12 @@
 -- The texts of a manifest: names that are names, and a version of SemVer 2.0.0.
 use Rattle.std.proofs.Common.{◌≡◌, ℕ, List, [], ◌∷◌, ◌++◌, Bool, true, false, Option, Some, None, Result, Ok, Err, not}
-use Rattle.std.proofs.Common.{◌||◌, nat_le, length, codes, refl, arith}
+use Rattle.std.proofs.Common.{◌||◌, nat_le, length, codes, is_some, unwrap_or, refl, arith}
 use Rattle.std.specs.List.{AllByRecursion}
 use Rattle.std.specs.Option.{ok_or}
 use Rattle.toml.specs.Data.{Data, string, integer, float, boolean, datetime, array, table, as_table, get_member}
 use Rattle.toml.specs.Data.{Members, no_members, member}
 use Rattle.semver.specs.Grammar.{IsValid}
-use Rattle.semver.specs.Parse.{Parts, version_parts}
+use Rattle.semver.specs.Parse.{Parts, req_of, version_parts}
 use Rattle.semver.specs.declared.error.Error.{Error}
 use Rattle.semver.proofs.Grammar.{version_parts-sound}
 use Rattle.model.specs.Outcome.{◌>>=◌, guard}
@@ -16,18 +16,18 @@ use Rattle.manifest.specs.Values.{has_key}
 use Rattle.manifest.specs.Packages.{PackageView, own_or_inherited, is_inherited, name_in, name_of, version_of_text}
 use Rattle.manifest.specs.Packages.{version_in, version_of, package_with, package_in, absent_package, or_false}
 use Rattle.manifest.specs.Packages.{package_at, package_of, rust_version_in, workspace_of, is_written}
-use Rattle.manifest.specs.Dependencies.{DependencyShapeView, bare, inherited, unsupported_in, source_of, feature_list}
+use Rattle.manifest.specs.Dependencies.{DependencyShapeView, detailed, unsupported_in, feature_list}
 use Rattle.manifest.specs.Dependencies.{default_features_in, may_be_optional, real_name_of, dependency_in, described}
 use Rattle.manifest.specs.Dependencies.{dependency_of, dependencies_in, section_at, section_of, sections_of, targets_in}
 use Rattle.manifest.specs.Dependencies.{targets_of}
 use Rattle.manifest.specs.Shapes.{ShapeView, all_dependencies, features_of, shape_of}
 use Rattle.manifest.specs.Manifests.{ManifestView, dependency_with, dependencies_of, features_with, limit, manifest_of}
-use Rattle.manifest.specs.Manifests.{manifest_of_bytes, requirement_of, sources_allowed, table_of_bytes}
+use Rattle.manifest.specs.Manifests.{manifest_of_bytes, requirement_or, sources_allowed, table_of_bytes}
 use Rattle.manifest.specs.declared.fault.ManifestFault.{ManifestFault}
 use Rattle.manifest.specs.declared.fault.ManifestFault.TheVariants.{Shape, TooLarge, UnsupportedSource}
 use Rattle.manifest.specs.declared.fault.Part.{Part}
 use Rattle.manifest.specs.declared.fault.Part.TheVariants as part
-use Rattle.manifest.specs.declared.fault.Unsupported.TheVariants.{Workspace}
+use Rattle.manifest.specs.declared.fault.Unsupported.TheVariants.{Patch, Replace, Workspace}
 use Rattle.resolver.proofs.Given.{Given, IfSome, any, next, tested, either, got, each-append}
 use Rattle.resolver.proofs.IndexTexts.{IsName, MeansName}
 
@@ -97,7 +97,7 @@ package-own top = by (get_member (codes "package") top)
 -- ---- the dependencies
 
 abbrev IsShape : DependencyShapeView → Type 0
-IsShape d = IsName d.real_name
+IsShape d = IsName (d.parts).real_name
 
 abbrev AreShapes : List DependencyShapeView → Type 0
 AreShapes ds = AllByRecursion IsShape ds
@@ -111,23 +111,30 @@ real-name : (p : Part) (name : List ℕ) (o : Option (List ℕ)) → IsName name
 real-name p name None h = h
 real-name p name (Some text) h = name-checked p text
 
+detailed-shape : (p : Part) (kind : _) (name text : List ℕ) (s : _) (t : Members) → IsName name
+    → Given IsShape (detailed p kind name text s t)
+unfolding detailed
+detailed-shape p kind name text s t h = any IsShape (if_there (text_of p) (get_member (codes "package") t)) _
+    (λ given. next IsName IsShape (real_name_of p name given) _ (real-name p name given h) (λ real is.
+    any IsShape (or_absent false (flag_of p) (get_member (codes "optional") t)) _
+    (λ optional. any IsShape (guard (not optional || may_be_optional kind) (Shape p)) _ (λ allowed.
+    any IsShape (default_features_in p t) _ (λ default_features.
+    any IsShape (or_absent [] (feature_list p) (get_member (codes "features") t)) _ (λ features. is))))))
+
 table-shape : (p : Part) (kind : _) (name : List ℕ) (t : Members) → IsName name
     → Given IsShape (dependency_in p kind name t)
 unfolding dependency_in
 table-shape p kind name t h = any IsShape (if_there (text_of p) (get_member (codes "version") t)) _
-    (λ version. any IsShape (source_of p (unsupported_in t) version) _ (λ from.
-    any IsShape (if_there (text_of p) (get_member (codes "package") t)) _ (λ given.
-    next IsName IsShape (real_name_of p name given) _ (real-name p name given h) (λ real is.
-    any IsShape (or_absent false (flag_of p) (get_member (codes "optional") t)) _
-    (λ optional. any IsShape (guard (not optional || may_be_optional kind) (Shape p)) _ (λ allowed.
-    any IsShape (default_features_in p t) _ (λ default_features.
-    any IsShape (or_absent [] (feature_list p) (get_member (codes "features") t)) _ (λ features. is))))))))
+    (λ version. any IsShape (guard (is_some version || is_some (unsupported_in t)) (Shape p)) _
+    (λ described. detailed-shape p kind name (unwrap_or version []) (unsupported_in t) t h))
 
 described-shape : (p : Part) (kind : _) (name : List ℕ) (d : Data) → IsName name
     → Given IsShape (described p kind name d)
-described-shape p kind name (string text) h = h
-described-shape p kind name (table t) h = either IsShape (has_key (codes "workspace") t) (Ok (bare name inherited))
-    (dependency_in p kind name t) h (table-shape p kind name t h)
+described-shape p kind name (string text) h = detailed-shape p kind name text None no_members h
+described-shape p kind name (table t) h =
+    either IsShape (has_key (codes "workspace") t) (detailed p kind name [] (Some Workspace) no_members)
+    (dependency_in p kind name t) (detailed-shape p kind name [] (Some Workspace) no_members h)
+    (table-shape p kind name t h)
 described-shape p kind name (integer z) h = tt
 described-shape p kind name (float x) h = tt
 described-shape p kind name (boolean b) h = tt
@@ -191,7 +198,7 @@ shape-texts top = next (IfSome IsPackage) IsShaped (package_of top) _ (package-o
 
 with-named : (d : DependencyShapeView) → IsShape d → Given MeansName (dependency_with d)
 unfolding dependency_with
-with-named d h = any MeansName (requirement_of d.name d.source) _ (λ requirement. h)
+with-named d h = any MeansName (requirement_or (d.parts).name (req_of d.text)) _ (λ requirement. h)
 
 all-named : (ds : List DependencyShapeView) → AreShapes ds → Given (AllByRecursion MeansName) (dependencies_of ds)
 unfolding dependencies_of
@@ -212,13 +219,15 @@ own-there (Some p) e h = h
 table-texts : (top : Members) → Given HasTexts (manifest_of top)
 unfolding manifest_of
 table-texts top = next IsShaped HasTexts (shape_of top) _ (shape-texts top)
-    (λ shape h. any HasTexts (sources_allowed shape) _ (λ allowed.
+    (λ shape h. any HasTexts (guard (not shape.patches) (UnsupportedSource Patch)) _ (λ unpatched.
+    any HasTexts (guard (not shape.replaces) (UnsupportedSource Replace)) _ (λ unreplaced.
     next IsPackage HasTexts (ok_or shape.own (UnsupportedSource Workspace)) _
     (own-there shape.own (UnsupportedSource Workspace) h.0) (λ own is.
+    any HasTexts (sources_allowed shape.has_members shape.dependencies) _ (λ allowed.
     next (AllByRecursion MeansName) HasTexts (dependencies_of shape.dependencies) _
     (all-named shape.dependencies h.1) (λ dependencies named.
     any HasTexts (features_with dependencies shape.features) _
-    (λ features. record { named = is.0; version = is.1; dependencies = named })))))
+    (λ features. record { named = is.0; version = is.1; dependencies = named })))))))
 
 bytes-texts : (bytes : List ℕ) → Given HasTexts (manifest_of_bytes bytes)
 unfolding manifest_of_bytes

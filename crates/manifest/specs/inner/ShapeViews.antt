@@ -1,29 +1,27 @@
 -- What the borrowed structs of a manifest's shape stand for, without where they lie in memory.
-use Rattle.std.specs.Prelude.{List, map, option_map}
+use Rattle.std.specs.Prelude.{List, [], map, option_map}
 use Rattle.semver.specs.Identifiers.{parts_of}
 use Rattle.classes.specs.Classes.{rust_version_view}
 use Rattle.features.specs.inner.Tables.{rows_of}
 use Rattle.manifest.specs.Packages.{PackageView}
-use Rattle.manifest.specs.Dependencies.{SourceView, registry, unsupported, DependencyShapeView}
+use Rattle.manifest.specs.Dependencies.{DependencyShapeView}
 use Rattle.manifest.specs.Shapes.{ShapeView}
-use Rattle.manifest.specs.declared.dependency.DependencySource.{DependencySource}
-use Rattle.manifest.specs.declared.dependency.DependencySource.TheVariants.{Registry, Unsupported}
 use Rattle.manifest.specs.declared.dependency.DependencyShape.{DependencyShape}
 use Rattle.manifest.specs.declared.package.Package.{Package}
 use Rattle.manifest.specs.declared.shape.Shape.{Shape}
 
-abbrev pub source_view : DependencySource → SourceView
-source_view (Registry text) = registry text.now
-source_view (Unsupported s) = unsupported s
-
 abbrev pub dependency_view : DependencyShape → DependencyShapeView
 dependency_view d = record {
-  name = d.name;
-  real_name = d.real_name;
-  source = source_view d.source;
-  optional = d.optional;
-  default_features = d.default_features;
-  features = d.features.items;
+  parts = record {
+    name = d.name;
+    real_name = d.real_name;
+    requirement = [];
+    optional = d.optional;
+    default_features = d.default_features;
+    features = d.features.items;
+  };
+  text = d.requirement.now;
+  unsupported = d.unsupported;
 }
 
 abbrev pub dependency_views : List DependencyShape → List DependencyShapeView
