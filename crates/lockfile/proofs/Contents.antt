@@ -3,7 +3,7 @@ use Rattle.std.proofs.Common.{◌≡◌, ℕ, suc, ◌+◌, ◌<◌, ◌≤◌, 
 use Rattle.std.proofs.Common.{Some, None, Result, Ok, Err, refl, sym, ◌∙◌, ap, subst, arith, if◌then◌else◌}
 use Rattle.std.specs.List.{AllByRecursion, All, AllPairs, IsDistinct, zip}
 use Rattle.std.specs.List.Sorted.{IsStrictlySortedBy}
-use Rattle.std.specs.Option.{ok_or}
+use Rattle.std.specs.Option.{ok_or, option_or}
 use Rattle.std.specs.Ordering.{nat_cmp, eq_by_cmp}
 use Rattle.std.specs.declared.cmp.Ordering.TheVariants.{Less}
 use Rattle.std.proofs.lemmas.Cmp.{nat_cmp_total}
@@ -14,7 +14,7 @@ use Rattle.model.specs.Content.{Package, Content}
 use Rattle.model.specs.Order.{package_cmp, IsContent, in_order, has_alike}
 use Rattle.model.specs.Outcome.{◌>>=◌}
 use Rattle.lockfile.specs.Locks.{Unlinked, locked_packages, linked, lists_of, list_of, places_meant, place_meant}
-use Rattle.lockfile.specs.Locks.{ordered_places, only, places, places_from, or_else, is_form, is_form_without_source}
+use Rattle.lockfile.specs.Locks.{ordered_places, only, places, places_from, is_form, is_form_without_source}
 use Rattle.lockfile.specs.inner.Search.{IsOrdered}
 use Rattle.lockfile.specs.declared.fault.LockFault.{LockFault}
 use Rattle.lockfile.specs.declared.fault.LockFault.TheVariants.{LockShape}
@@ -37,7 +37,7 @@ only-below m (n ∷ []) i h e = let same : n ≡ i = cc in subst (λ k. k < m) s
 only-below m (n ∷ (k ∷ ns)) i h e = cc
 
 else-below : (m : ℕ) (ns ks : List ℕ) (i : ℕ) → AllByRecursion (λ n. n < m) ns → AllByRecursion (λ n. n < m) ks
-    → (o : Option ℕ) → only ns ≡ o → or_else o (only ks) ≡ Some i → i < m
+    → (o : Option ℕ) → only ns ≡ o → option_or o (only ks) ≡ Some i → i < m
 else-below m ns ks i h k None e f = only-below m ks i k f
 else-below m ns ks i h k (Some j) e f = only-below m ns i h (e ∙ f)
 

@@ -3,6 +3,7 @@ use Rattle.std.proofs.Common.{◌≡◌, ℕ, ◌+◌, Bool, true, false, not, n
 use Rattle.std.proofs.Common.{None, is_some, Ok, Err, Ordering, ◌⊎◌, inl, inr, refl, sym, ◌∙◌, ap}
 use Rattle.std.specs.Cmp.Lexicographic.{pointwise}
 use Rattle.std.specs.List.{AllByRecursion}
+use Rattle.std.specs.Option.{option_or}
 use Rattle.std.specs.Ordering.{is_eq, ordering_then}
 use Rattle.std.proofs.lemmas.Cmp.{nat_list_eq_equiv, tied_itself}
 use Rattle.std.proofs.lemmas.List.{append_cancel_right}
@@ -16,7 +17,7 @@ use Rattle.semver.proofs.Grammar.{version_parts-sound, version_parts-complete}
 use Rattle.model.specs.Content.{Package, Content, same_option}
 use Rattle.model.specs.Order.{text_cmp, version_cmp, source_cmp}
 use Rattle.lockfile.specs.Locks.{version_form, source_form, is_source_form, is_form, is_form_without_source}
-use Rattle.lockfile.specs.Locks.{places_from, places, only, or_else, place_meant}
+use Rattle.lockfile.specs.Locks.{places_from, places, only, place_meant}
 use Rattle.lockfile.specs.inner.Search.{IsRead, is_named, is_versioned, is_sourced}
 use Rattle.model.proofs.PackageOrder.{version_total}
 use Rattle.lockfile.proofs.PackageOrder.{then-eq, text-eq, source-eq, version-tie}
@@ -264,7 +265,7 @@ pub none : (s : Package → Bool) (n : ℕ) (ps : Content) → AllByRecursion (�
 none s n [] h = refl
 none s n (p ∷ ps) h = rw h.0 (none s (n + 1) ps h.1)
 
-or-none : (o : Option ℕ) → or_else o None ≡ o
+or-none : (o : Option ℕ) → option_or o None ≡ o
 or-none None = refl
 or-none (Some n) = refl
 
@@ -276,7 +277,7 @@ AreRead = AllByRecursion IsRead
 meant-by : (text : List ℕ) (s t : Package → Bool) (ps : Content) → AreRead ps
     → ((p : Package) → IsRead p → is_form text p ≡ s p)
     → ((p : Package) → IsRead p → is_form_without_source text p ≡ t p)
-    → place_meant ps text ≡ or_else (only (places s ps)) (only (places t ps))
+    → place_meant ps text ≡ option_or (only (places s ps)) (only (places t ps))
 meant-by text s t ps r f g =
     rw (
       agree (is_form text) s 0 ps (each-weaker IsRead (λ p. is_form text p ≡ s p) f ps r),
@@ -295,7 +296,8 @@ meant-only : (text : List ℕ) (s : Package → Bool) (ps : Content) → AreRead
     → ((p : Package) → IsRead p → is_form text p ≡ s p)
     → ((p : Package) → IsRead p → is_form_without_source text p ≡ false) → place_meant ps text ≡ only (places s ps)
 meant-only text s ps r f g =
-    meant-by text s (λ p. false) ps r f g ∙ ap (or_else (only (places s ps))) (fails ps) ∙ or-none (only (places s ps))
+    meant-by text s (λ p. false) ps r f g ∙ ap (option_or (only (places s ps))) (fails ps)
+    ∙ or-none (only (places s ps))
 
 meant-none : (text : List ℕ) (ps : Content) → AreRead ps → ((p : Package) → IsRead p → is_form text p ≡ false)
     → ((p : Package) → IsRead p → is_form_without_source text p ≡ false) → place_meant ps text ≡ None
@@ -307,7 +309,7 @@ meant-name n ps r f = meant-only n (is_named n) ps r (λ p q. name-form n p q f)
 pub meant-version : (n : List ℕ) (v : Parts) (text : List ℕ) (ps : Content) → AreRead ps → Free n → Free text
     → version_parts text ≡ Ok v
     → place_meant ps (n ++ (32 ∷ text))
-    ≡ or_else (only (places (is_versioned n v) ps)) (only (places (is_sourced n v None) ps))
+    ≡ option_or (only (places (is_versioned n v) ps)) (only (places (is_sourced n v None) ps))
 meant-version n v text ps r f g is = meant-by (n ++ (32 ∷ text)) (is_versioned n v) (is_sourced n v None) ps r
     (λ p q. version-form n v text p q f g is) (λ p q. version-without n v text p q f is)
 

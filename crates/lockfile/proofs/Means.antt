@@ -3,6 +3,7 @@ use Rattle.std.proofs.Common.{◌≡◌, ℕ, zero, suc, ◌+◌, Bool, true, fa
 use Rattle.std.proofs.Common.{filter, slice_get, Option, Some, None, refl, sym, ◌∙◌, ap, subst, arith}
 use Rattle.std.specs.List.{AllByRecursion}
 use Rattle.std.specs.List.Sorted.{IsStrictlySortedBy}
+use Rattle.std.specs.Option.{option_map_or, option_or}
 use Rattle.std.specs.Ordering.{is_eq}
 use Rattle.std.specs.declared.cmp.Ordering.TheVariants.{Less}
 use Rattle.std.proofs.lemmas.Bool.{eqb-true, and_from}
@@ -12,10 +13,10 @@ use Rattle.semver.proofs.Grammar.{version_parts-complete}
 use Rattle.model.specs.Content.{Package, Content, same_version, passes}
 use Rattle.model.specs.Order.{text_cmp, version_cmp, package_cmp}
 use Rattle.model.specs.Summary.{same_text}
-use Rattle.lockfile.specs.Locks.{version_form, is_form, is_form_without_source, places_from, places, only, or_else}
+use Rattle.lockfile.specs.Locks.{version_form, source_form, is_form, is_form_without_source, places_from, places, only}
 use Rattle.lockfile.specs.Locks.{place_meant}
 use Rattle.lockfile.specs.inner.Search.{IsOrdered, IsRead, is_named, is_versioned, is_sourced}
-use Rattle.lockfile.specs.Spelling.{named, versioned, longest_form, dependency_text}
+use Rattle.lockfile.specs.Spelling.{named, versioned, dependency_text}
 use Rattle.lockfile.specs.inner.Written.{AreRead}
 use Rattle.lockfile.proofs.Alone.{both-ways, version-ways, filter-agree, some-pass}
 use Rattle.lockfile.proofs.Forms.{meant-name, meant-version, meant-source, none}
@@ -142,10 +143,10 @@ versioned-itself q = then-eq (text_cmp q.name q.name) (version_cmp q.version q.v
 
 -- ---- the text of a package
 
-else-some : (o p : Option ℕ) (n : ℕ) → o ≡ Some n → or_else o p ≡ Some n
+else-some : (o p : Option ℕ) (n : ℕ) → o ≡ Some n → option_or o p ≡ Some n
 else-some o p n e = rw e refl
 
-else-other : (o p : Option ℕ) (n : ℕ) → o ≡ None → p ≡ Some n → or_else o p ≡ Some n
+else-other : (o p : Option ℕ) (n : ℕ) → o ≡ None → p ≡ Some n → option_or o p ≡ Some n
 else-other o p n e f = rw e f
 
 not-true : (n : ℕ) → (n == 1) ≡ false → n ≡ 1 → ⊥
@@ -163,14 +164,15 @@ text-means ps n q s r e = by_name (named ps q == 1) refl
 
     two : Option ℕ
     two =
-        or_else (only (places (is_versioned q.name q.version) ps)) (only (places (is_sourced q.name q.version None) ps))
+        option_or (only (places (is_versioned q.name q.version) ps))
+        (only (places (is_sourced q.name q.version None) ps))
 
     by_words : place_meant ps (version_form q) ≡ two
     by_words = meant-version q.name q.version (parts_text q.version) ps r (free-name q.name read.0)
         (free-version q.version read.1) (version_parts-complete q.version read.1)
 
     by_source : (o : Option (List ℕ)) → q.source ≡ o → (versioned ps q == 1) ≡ false
-        → place_meant ps (longest_form q o) ≡ Some n
+        → place_meant ps (option_map_or (source_form q) o (version_form q)) ≡ Some n
     by_source None is several = by_words ∙ else-other _ _ n (no-place (is_versioned q.name q.version) ps (λ f. not-true
         (versioned ps q) several (sym (versioned-counts q ps read r) ∙ f))) (sourced-place ps n q None s e is)
     by_source (Some t) is several =

@@ -1,12 +1,12 @@
 -- What the search for a dependency text gives is the place that the text means.
 use Rattle.std.proofs.Common.{◌≡◌, ℕ, Bool, true, false, List, [], ◌∷◌, ◌++◌, Option, Some, None, Result, Ok, Err, refl}
 use Rattle.std.proofs.Common.{sym, ◌∙◌, ap}
-use Rattle.std.specs.Option.{ok_or}
+use Rattle.std.specs.Option.{ok_or, option_or}
+use Rattle.std.specs.Result.{result_ok}
 use Rattle.semver.specs.Parse.{Parts, version_parts}
 use Rattle.semver.specs.declared.error.Error.{Error}
 use Rattle.model.specs.Outcome.{Gives, Faults}
-use Rattle.lockfile.specs.Locks.{wants_memory, checked_version, version_read, place_meant, only, places, or_else}
-use Rattle.lockfile.specs.Locks.{locked_packages}
+use Rattle.lockfile.specs.Locks.{wants_memory, checked_version, place_meant, only, places, locked_packages}
 use Rattle.lockfile.specs.inner.Search.{HasNoSpace, is_named, is_versioned, is_sourced}
 use Rattle.lockfile.specs.inner.Views.{unlinked_views}
 use Rattle.lockfile.specs.declared.fault.LockFault.{LockFault}
@@ -33,11 +33,11 @@ gives-same : (r m : Result ℕ LockFault) → r ≡ m → Gives wants_memory (λ
 gives-same (Ok i) m h = sym h
 gives-same (Err e) m h = same-faults (wants_memory e) e m (sym h)
 
-read-ok : (r : Result Parts Error) (v : Parts) → version_read r ≡ Ok v → r ≡ Ok v
+read-ok : (r : Result Parts Error) (v : Parts) → ok_or (result_ok r) LockShape ≡ Ok v → r ≡ Ok v
 read-ok (Ok w) v h = cc
 read-ok (Err e) v h = cc
 
-refused : (r : Result Parts Error) (f : LockFault) → version_read r ≡ Err f
+refused : (r : Result Parts Error) (f : LockFault) → ok_or (result_ok r) LockShape ≡ Err f
     → (f ≡ LockShape) × ((e : Error) × (r ≡ Err e))
 refused (Ok w) f h = cc
 refused (Err e) f h = let same : f ≡ LockShape = cc in (same, (e, refl))
@@ -75,7 +75,7 @@ name-place ps n o r h e is =
 version-meant : (ps : List UnlinkedPackage) (n : List ℕ) (v : Parts) (text : List ℕ) → HasNoSpace n → HasNoSpace text
     → checked_version text ≡ Ok v
     → place_meant (locked_packages (unlinked_views ps)) (n ++ (32 ∷ text))
-    ≡ or_else (Only ps (is_versioned n v)) (Only ps (is_sourced n v None))
+    ≡ option_or (Only ps (is_versioned n v)) (Only ps (is_sourced n v None))
 version-meant ps n v text h k is = meant-version n v text (locked_packages (unlinked_views ps)) (each-read ps)
     (free-from n h) (free-from text k) (read-ok (version_parts text) v is)
 

@@ -5,6 +5,7 @@ use Rattle.std.specs.List.{AllByRecursion}
 use Rattle.std.specs.List.Sorted.{IsStrictlySortedBy}
 use Rattle.std.specs.Option.{ok_or}
 use Rattle.std.specs.Ordering.{eq_by_cmp}
+use Rattle.std.specs.Result.{result_ok}
 use Rattle.toml.specs.Data.{as_array, as_table, get_member, Data, Items, no_items, item, Members}
 use Rattle.semver.specs.Grammar.{IsValid}
 use Rattle.semver.specs.Parse.{Parts, version_parts}
@@ -14,7 +15,7 @@ use Rattle.features.specs.Names.{is_package_name}
 use Rattle.model.specs.Content.{Content}
 use Rattle.model.specs.Outcome.{◌>>=◌}
 use Rattle.model.specs.Order.{IsContent, has_alike, in_order}
-use Rattle.lockfile.specs.Locks.{Unlinked, version_known, text_at, checked_name, checked_version, version_read}
+use Rattle.lockfile.specs.Locks.{Unlinked, version_known, text_at, checked_name, checked_version}
 use Rattle.lockfile.specs.Locks.{plain_at, dependencies_at, unlinked_of, unlinked_in, packages_in, packages_at}
 use Rattle.lockfile.specs.Locks.{unlinked_alike, unlinked_cmp, ordered_packages, locked_packages, lists_of, content_of}
 use Rattle.lockfile.specs.Locks.{content_of_table, content_of_bytes, table_of_bytes, most_bytes}
@@ -35,7 +36,7 @@ named text name true h e =
 named text name false h e = let is : checked_name text ≡ Err LockShape = rw h refl in cc
 
 valid : (text : List ℕ) (v : Parts) → (r : Result Parts Error) → version_parts text ≡ r
-    → version_read r ≡ Ok v → IsValid v
+    → ok_or (result_ok r) LockShape ≡ Ok v → IsValid v
 valid text v (Ok w) h e =
     let same : w ≡ v = ok-same w v e in
     subst IsValid same (version_parts-sound text w h).1

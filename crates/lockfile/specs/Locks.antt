@@ -4,14 +4,14 @@ use Rattle.std.specs.Prelude.{ℕ, ◌+◌, ℤ, pos, negsuc, Bool, true, false,
 use Rattle.std.specs.Prelude.{if◌then◌else◌, List, [], ◌∷◌, ◌++◌, length, map, Option, Some, None, is_some, Result, Ok}
 use Rattle.std.specs.Prelude.{Err, codes, option_and_then}
 use Rattle.std.specs.List.{list_all, zip}
-use Rattle.std.specs.Option.{ok_or}
+use Rattle.std.specs.Option.{ok_or, option_or}
+use Rattle.std.specs.Result.{result_ok}
 use Rattle.std.specs.Ordering.{nat_cmp}
 use Rattle.std.specs.declared.cmp.Ordering.{Ordering}
 use Rattle.toml.specs.Data.{Data, as_str, as_integer, as_array, as_table, get_member, Items, no_items, item, Members}
 use Rattle.toml.specs.Parse.{parse_document}
 use Rattle.semver.specs.Identifiers.{parts_text}
 use Rattle.semver.specs.Parse.{Parts, version_parts}
-use Rattle.semver.specs.declared.error.Error.{Error}
 use Rattle.model.specs.Outcome.{◌>>=◌, guard}
 use Rattle.model.specs.Content.{of_utf8, Package, Content, same_version, same_option}
 use Rattle.model.specs.Summary.{same_text}
@@ -56,12 +56,8 @@ abbrev pub checked_name : List ℕ → Result (List ℕ) LockFault
 checked_name text = if is_package_name text then Ok text else Err LockShape
 
 -- a text that has to be a version
-abbrev pub version_read : Result Parts Error → Result Parts LockFault
-version_read (Ok version) = Ok version
-version_read (Err e) = Err LockShape
-
 abbrev pub checked_version : List ℕ → Result Parts LockFault
-checked_version text = version_read (version_parts text)
+checked_version text = ok_or (result_ok (version_parts text)) LockShape
 
 -- a printable ASCII byte other than `"` and `\`
 abbrev pub is_plain_byte : ℕ → Bool
@@ -185,15 +181,11 @@ only [] = None
 only (i ∷ []) = Some i
 only (i ∷ (j ∷ js)) = None
 
-abbrev pub or_else : Option ℕ → Option ℕ → Option ℕ
-or_else None other = other
-or_else (Some i) other = Some i
-
 -- The place that a text means: of the one package of which it is a form. A `name version` that fits several packages
 -- means the one without a source.
 abbrev pub place_meant : Content → List ℕ → Option ℕ
 place_meant content text =
-    or_else (only (places (is_form text) content)) (only (places (is_form_without_source text) content))
+    option_or (only (places (is_form text) content)) (only (places (is_form_without_source text) content))
 
 unfoldable pub places_meant : Content → List (List ℕ) → Result (List ℕ) LockFault
 places_meant content [] = Ok []

@@ -3,9 +3,9 @@
 use Rattle.std.specs.Prelude.{ℕ, ◌&&◌, ◌==◌, List, [], ◌∷◌, ◌++◌, length, map, Option, Some, None, codes, slice_get}
 use Rattle.std.specs.Prelude.{if◌then◌else◌, ◌≡◌, true, pos}
 use Rattle.std.specs.List.{flat_map, filter, filter_map, list_all}
+use Rattle.std.specs.Option.{option_cmp, option_map_or}
 use Rattle.std.specs.Ordering.{ordering_then}
 use Rattle.std.specs.declared.cmp.Ordering.{Ordering}
-use Rattle.std.specs.declared.cmp.Ordering.TheVariants.{Less, Equal, Greater}
 use Rattle.semver.specs.Identifiers.{parts_text}
 use Rattle.model.specs.Content.{Package, Content, same_version}
 use Rattle.model.specs.Summary.{same_text}
@@ -38,28 +38,17 @@ named content p = length (filter (λ r. same_text p.name r.name) content)
 abbrev pub versioned : Content → Package → ℕ
 versioned content p = length (filter (λ r. same_text p.name r.name && same_version p.version r.version) content)
 
-abbrev pub longest_form : Package → Option (List ℕ) → List ℕ
-longest_form p None = version_form p
-longest_form p (Some source) = source_form p source
-
 -- the text of a dependency: its name where no other package has it, else with its version where no other has both, else
 -- with its source, if any
 abbrev pub dependency_text : Content → Package → List ℕ
 dependency_text content p = if named content p == 1 then p.name
     else if versioned content p == 1 then version_form p
-    else longest_form p p.source
+    else option_map_or (source_form p) p.source (version_form p)
 
--- one without a source comes first
-abbrev pub listed_source_cmp : Option (List ℕ) → Option (List ℕ) → Ordering
-listed_source_cmp (Some a) (Some b) = text_cmp a b
-listed_source_cmp (Some a) None = Greater
-listed_source_cmp None (Some b) = Less
-listed_source_cmp None None = Equal
-
--- a list goes by name, then the version's text, then the source, each by its bytes
+-- a list goes by name, then the version's text, then the source, each by its bytes; no source comes before one
 abbrev pub listed_cmp : Package → Package → Ordering
 listed_cmp p r = ordering_then (text_cmp p.name r.name)
-    (ordering_then (text_cmp (parts_text p.version) (parts_text r.version)) (listed_source_cmp p.source r.source))
+    (ordering_then (text_cmp (parts_text p.version) (parts_text r.version)) (option_cmp text_cmp p.source r.source))
 
 -- the elements at these places
 abbrev pub at_places : {X : Type 0} → List X → List ℕ → List X

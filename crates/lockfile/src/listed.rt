@@ -1,8 +1,9 @@
 //! The packages of one list, in the order in which they are written.
 
 ghost use Rattle.std.specs.Prelude.{◌≡◌, IfOk, option_map, slice_get};
-ghost use Rattle.model.specs.Order.{in_order};
-ghost use Rattle.lockfile.specs.Spelling.{listed_source_cmp, at_places};
+ghost use Rattle.std.specs.Option.{option_cmp};
+ghost use Rattle.model.specs.Order.{text_cmp, in_order};
+ghost use Rattle.lockfile.specs.Spelling.{at_places};
 ghost use Rattle.lockfile.specs.inner.Written.{written_cmp, entry_views, listed_view, listed_views};
 
 use crate::written_package::{Listed, WrittenPackage};
@@ -11,7 +12,7 @@ use std::cmp::Ordering;
 
 /// No source before one, two by their bytes.
 fn listed_source_order(a: Option<&str>, b: Option<&str>) -> Ordering
-    ensures { result ≡ listed_source_cmp (option_map (λ s. s.now) a.entry) (option_map (λ s. s.now) b.entry) }
+    ensures { result ≡ option_cmp text_cmp (option_map (λ s. s.now) a.entry) (option_map (λ s. s.now) b.entry) }
 {
     match (a, b) {
         (Some(a), Some(b)) => a.cmp(b),

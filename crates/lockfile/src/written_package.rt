@@ -6,7 +6,9 @@ ghost use Rattle.std.specs.List.{filter};
 ghost use Rattle.semver.specs.Identifiers.{parts_of, parts_text};
 ghost use Rattle.lockfile.specs.inner.Search.{IsOrdered, is_wanted};
 ghost use Rattle.model.specs.Content.{passes};
-ghost use Rattle.lockfile.specs.Spelling.{named, versioned, longest_form, dependency_text};
+ghost use Rattle.std.specs.Option.{option_map_or};
+ghost use Rattle.lockfile.specs.Locks.{version_form, source_form};
+ghost use Rattle.lockfile.specs.Spelling.{named, versioned, dependency_text};
 ghost use Rattle.lockfile.specs.inner.Views.{package_view, package_views};
 ghost use Rattle.lockfile.specs.inner.Written.{written_of, entry_view, entry_views, listed_view};
 
@@ -106,8 +108,8 @@ fn source_form(alloc: Global, name: &str, version: &str, source: &str) -> Result
 /// The longest text by which lists name a package whose version has this text.
 fn longest_form(alloc: Global, locked: &Package, version: &str) -> Result<String, AllocError>
     requires { version.now ≡ parts_text (parts_of locked.now.version) }
-    ensures { IfOk result
-        (λ t. string_bytes t ≡ longest_form (package_view locked.now) (package_view locked.now).source) }
+    ensures { IfOk result (λ t. string_bytes t ≡ option_map_or (source_form (package_view locked.now))
+        (package_view locked.now).source (version_form (package_view locked.now))) }
 {
     let name = locked.name.as_str();
     match locked.source() {

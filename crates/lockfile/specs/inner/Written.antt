@@ -1,13 +1,14 @@
 -- What a lock's writer keeps of each package: the texts that are written for it more than once.
 use Rattle.std.specs.Prelude.{ℕ, List, map, string_bytes}
 use Rattle.std.specs.List.{AllByRecursion}
+use Rattle.std.specs.Option.{option_cmp}
 use Rattle.std.specs.Ordering.{ordering_then}
 use Rattle.std.specs.declared.cmp.Ordering.{Ordering}
 use Rattle.semver.specs.Identifiers.{parts_text}
 use Rattle.model.specs.Content.{Package, Content}
 use Rattle.model.specs.Order.{text_cmp, in_order}
 use Rattle.lockfile.specs.inner.Search.{IsRead}
-use Rattle.lockfile.specs.Spelling.{block, dependency_text, listed_source_cmp, at_places}
+use Rattle.lockfile.specs.Spelling.{block, dependency_text, at_places}
 use Rattle.lockfile.specs.inner.Views.{package_view}
 use Rattle.lockfile.specs.declared.written_package.WrittenPackage.{WrittenPackage}
 use Rattle.lockfile.specs.declared.written_package.Listed.{Listed}
@@ -24,7 +25,7 @@ written_of content p = record { locked = p; version = parts_text p.version; text
 -- the order of a list, by the texts that are kept
 abbrev pub written_cmp : Written → Written → Ordering
 written_cmp w x = ordering_then (text_cmp w.locked.name x.locked.name)
-    (ordering_then (text_cmp w.version x.version) (listed_source_cmp w.locked.source x.locked.source))
+    (ordering_then (text_cmp w.version x.version) (option_cmp text_cmp w.locked.source x.locked.source))
 
 -- the list of a package, in the order in which it is written
 abbrev pub written_list : List Written → Written → List Written
