@@ -31,9 +31,10 @@ use Rattle.index_lines.specs.Views.{record_view}
 use Rattle.index_lines.specs.declared.record.Record as reader
 use Rattle.catalogue.specs.Loads.{records_view, with_ranks}
 use Rattle.catalogue.specs.Runs.{as_record}
-use Rattle.catalogue.specs.Stores.{Ranked, records, rank_of, rank_by, fits_given, ranked_of, ranked_view, AreRising}
+use Rattle.catalogue.specs.Stores.{Ranked, records, rank_of, fits_given, ranked_of, ranked_view, AreRising}
 use Rattle.catalogue.specs.Stores.{AreRead}
 use Rattle.catalogue.specs.declared.candidate.Candidate.{Candidate}
+use Rattle.catalogue.specs.declared.candidate.Rank.TheVariants.{Locked, Fits, Rest}
 
 -- what holds of a record that knows its features, and of one that brings valid parts
 abbrev pub Knows : Record → Type 0
@@ -173,8 +174,8 @@ fits-is None r = refl
 fits-is (Some v) r = refl
 
 pub rank-is : (rust : Option RustVersion) (r : Record) (a b : Bool) → a ≡ b
-    → rank_by a (fits_given rust r.rust_version) ≡ rank_by b (fits rust r)
-rank-is rust r a b same = ap₂ rank_by same (fits-is rust r)
+    → cond a Locked (cond (fits_given rust r.rust_version) Fits Rest) ≡ cond b Locked (cond (fits rust r) Fits Rest)
+rank-is rust r a b same = ap₂ (λ (a b : Bool). cond a Locked (cond b Fits Rest)) same (fits-is rust r)
 
 -- an iterator that has none left has no items left
 pub none-left : {X : Type 0} (n : ℕ) (xs : List X) → n ≡ length xs → n ≡ 0 → xs ≡ []

@@ -5,7 +5,7 @@ use Rattle.std.proofs.Common.{Result, Ok, Err, Vec, IfOk, refl, sym, ap, ap₂, 
 use Rattle.std.specs.declared.alloc.AllocError.{AllocError}
 use Rattle.std.specs.declared.alloc.Global.{Global}
 use Rattle.semver.specs.declared.Version.{Version}
-use Rattle.catalogue.specs.Stores.{ranked_view, same_rank, rank_by, rank_of, Ranked, AreRanked, records, places_down}
+use Rattle.catalogue.specs.Stores.{ranked_view, same_rank, rank_of, Ranked, AreRanked, records, places_down}
 use Rattle.catalogue.specs.Stores.{is_ranked, places_of, places_by_rank}
 use Rattle.std.specs.List.Sorted.{IsPermutation}
 use Rattle.std.proofs.Math.ListN.{get_or-map}
@@ -208,7 +208,7 @@ module _ (locked : Parts → Bool) (rust : Option RustVersion) where
   is_locked_rank : (r : Record) → same_rank (rank_of locked rust r) Locked ≡ locked r.version
   is_locked_rank r = by (locked r.version) (fits rust r)
     where
-      by : (a b : Bool) → same_rank (rank_by a b) Locked ≡ a
+      by : (a b : Bool) → same_rank (cond a Locked (cond b Fits Rest)) Locked ≡ a
       by true b = refl
       by false true = refl
       by false false = refl
@@ -216,7 +216,7 @@ module _ (locked : Parts → Bool) (rust : Option RustVersion) where
   is_fits_rank : (r : Record) → same_rank (rank_of locked rust r) Fits ≡ (not (locked r.version) && fits rust r)
   is_fits_rank r = by (locked r.version) (fits rust r)
     where
-      by : (a b : Bool) → same_rank (rank_by a b) Fits ≡ (not a && b)
+      by : (a b : Bool) → same_rank (cond a Locked (cond b Fits Rest)) Fits ≡ (not a && b)
       by true b = refl
       by false true = refl
       by false false = refl
@@ -224,7 +224,7 @@ module _ (locked : Parts → Bool) (rust : Option RustVersion) where
   is_rest_rank : (r : Record) → same_rank (rank_of locked rust r) Rest ≡ (not (locked r.version) && not (fits rust r))
   is_rest_rank r = by (locked r.version) (fits rust r)
     where
-      by : (a b : Bool) → same_rank (rank_by a b) Rest ≡ (not a && not b)
+      by : (a b : Bool) → same_rank (cond a Locked (cond b Fits Rest)) Rest ≡ (not a && not b)
       by true b = refl
       by false true = refl
       by false false = refl

@@ -305,7 +305,7 @@ module _ (old : Content) (source : List ℕ) (rust : Option RustVersion) (root :
           → AskingEnds old source rust root calls failed before e after
       by fault.OutOfMemory f = inr (here fault.OutOfMemory f)
       by (fault.FolderFailed path) f = here (fault.FolderFailed path) f
-      by (fault.TooLarge limit.Names) f = absurd f
+      by (fault.TooLarge limit.Names) (bytes, call, never) = absurd never
       by (fault.TooLarge (limit.File n)) f = here (fault.TooLarge (limit.File n)) f
       by (fault.TooLarge (limit.Lines n)) f = here (fault.TooLarge (limit.Lines n)) f
       by (fault.ChecksumChanged n v) f = absurd f

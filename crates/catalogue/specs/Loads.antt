@@ -2,13 +2,13 @@
 -- held against an old lock, are our own).
 use Rattle.std.specs.Prelude.{◌≡◌, ◌<◌, ◌≤◌, ◌⊎◌, ℕ, Bool, false, not, ◌&&◌, if◌then◌else◌, List, [], ◌∷◌, ◌++◌, length}
 use Rattle.std.specs.Prelude.{map, flat_map, Option, Some, None, option_map, option_copied, Result, Ok, Err, Vec}
-use Rattle.std.specs.Prelude.{string_bytes}
+use Rattle.std.specs.Prelude.{IsSomeAnd, string_bytes}
 use Rattle.std.specs.Borrow.{Bor}
 use Rattle.std.specs.List.{All}
 use Rattle.std.specs.declared.alloc.Global.{Global}
 use Rattle.semver.specs.Parse.{Parts}
 use Rattle.semver.specs.Identifiers.{parts_of}
-use Rattle.model.specs.Content.{Content, Package, same_option, packages_if}
+use Rattle.model.specs.Content.{Content, Package, same_option, candidates_of, candidate_at, packages_if}
 use Rattle.model.specs.Candidates.{Record as ModelRecord, RustVersion, candidates_among, is_locked, preferred_rust}
 use Rattle.model.specs.Candidates.Prefer.{newest, rust_first}
 use Rattle.model.specs.Summary.{Dependency, same_text}
@@ -18,16 +18,17 @@ use Rattle.index_lines.specs.Views.{record_view}
 use Rattle.index_reader.specs.declared.folder.FolderFault.TheVariants.{Failed}
 use Rattle.index_lines.specs.declared.record.Record.{Record}
 use Rattle.index_reader.specs.declared.skip.Skip.{Skip}
-use Rattle.catalogue.specs.Stores.{Ranked, rank_of, CatalogueView, candidates_at, record_at, Said, said}
+use Rattle.catalogue.specs.Stores.{Ranked, rank_of, CatalogueView, rows_by_name}
 use Rattle.catalogue.specs.inner.Views.{candidates_view}
 use Rattle.features.specs.Views.{dependency_views}
-use Rattle.catalogue.specs.Runs.{Asked, Calls, Chain, as_record, meant_by, records_of, AreNext, next_name}
+use Rattle.catalogue.specs.Runs.{Asked, Calls, Chain, as_record, meant_by, candidates_in, AreNext, next_name}
 use Rattle.catalogue.specs.declared.store.Prefer.{Prefer}
 use Rattle.catalogue.specs.declared.store.Prefer.TheVariants as prefer
 use Rattle.catalogue.specs.declared.candidates.Candidates.{Candidates}
 use Rattle.catalogue.specs.declared.candidate.Candidate.{Candidate}
 use Rattle.catalogue.specs.declared.fault.LoadFault.{LoadFault}
 use Rattle.catalogue.specs.declared.fault.LoadFault.TheVariants as fault
+use Rattle.catalogue.specs.declared.fault.Limit.{Limit}
 use Rattle.catalogue.specs.declared.fault.Limit.TheVariants as limit
 
 -- ---- the limits
@@ -62,18 +63,11 @@ pub record IsRead {S : Type 0} (calls : Calls S) (before : S) (name : List ℕ) 
   pub within : IsWithin answer
   pub says : file_of (name, answer) ≡ file
 
--- it answered with a file that has too many bytes
-pub record IsTooLong {S : Type 0} (calls : Calls S) (before : S) (name : List ℕ) (after : S) : Type 0 where
-  pub bytes : List ℕ
-  pub call : calls before (path_of name) (Ok (Some bytes)) after
-  pub too_many : most_bytes < length bytes
-
--- it answered with a file that has too many lines, and not too many bytes
-pub record HasTooManyLines {S : Type 0} (calls : Calls S) (before : S) (name : List ℕ) (after : S) : Type 0 where
-  pub bytes : List ℕ
-  pub call : calls before (path_of name) (Ok (Some bytes)) after
-  pub few_bytes : length bytes ≤ most_bytes
-  pub too_many : most_lines < line_count bytes
+-- which limit a file of this name is past: it has too many bytes, or not these but too many lines
+abbrev pub IsPast : List ℕ → List ℕ → Limit → Type 0
+IsPast name bytes limit.Names = ⊥
+IsPast name bytes (limit.File n) = (n ≡ name) × (most_bytes < length bytes)
+IsPast name bytes (limit.Lines n) = (n ≡ name) × (length bytes ≤ most_bytes) × (most_lines < line_count bytes)
 
 -- it wasn't asked, or asked once, for this name, whatever it answered
 abbrev pub IsAskedAtMost : {S : Type 0} → Calls S → S → List ℕ → S → Type 0
@@ -87,10 +81,8 @@ Fails calls failed before name fault.OutOfMemory after = IsAskedAtMost calls bef
 Fails calls failed before name (fault.FolderFailed path) after =
     (string_bytes path ≡ path_of name) × calls before (path_of name) (Err Failed) after
     × IsRisen (failed before) (failed after)
-Fails calls failed before name (fault.TooLarge limit.Names) after = ⊥
-Fails calls failed before name (fault.TooLarge (limit.File n)) after = (n ≡ name) × IsTooLong calls before name after
-Fails calls failed before name (fault.TooLarge (limit.Lines n)) after =
-    (n ≡ name) × HasTooManyLines calls before name after
+Fails calls failed before name (fault.TooLarge which) after =
+    (bytes : List ℕ) × calls before (path_of name) (Ok (Some bytes)) after × IsPast name bytes which
 Fails calls failed before name (fault.ChecksumChanged n v) after = ⊥
 
 abbrev pub Reads : {S : Type 0} → Calls S → (S → ℕ) → S → List ℕ
@@ -99,23 +91,20 @@ Reads calls failed before name (Ok contents) after = IsRead calls before name (c
 Reads calls failed before name (Err e) after = Fails calls failed before name e after
 
 -- which fault a file that is past the limits is
-abbrev pub IsPast : List ℕ → List ℕ → LoadFault → Type 0
-IsPast name bytes fault.OutOfMemory = Unit {0}
-IsPast name bytes (fault.FolderFailed path) = ⊥
-IsPast name bytes (fault.TooLarge limit.Names) = ⊥
-IsPast name bytes (fault.TooLarge (limit.File n)) = (n ≡ name) × (most_bytes < length bytes)
-IsPast name bytes (fault.TooLarge (limit.Lines n)) =
-    (n ≡ name) × (length bytes ≤ most_bytes) × (most_lines < line_count bytes)
-IsPast name bytes (fault.ChecksumChanged n v) = ⊥
+abbrev pub IsRefused : List ℕ → List ℕ → LoadFault → Type 0
+IsRefused name bytes fault.OutOfMemory = Unit {0}
+IsRefused name bytes (fault.FolderFailed path) = ⊥
+IsRefused name bytes (fault.TooLarge which) = IsPast name bytes which
+IsRefused name bytes (fault.ChecksumChanged n v) = ⊥
 
 abbrev pub SaysOfLimits : List ℕ → List ℕ → Result (Unit {0}) LoadFault → Type 0
 SaysOfLimits name bytes (Ok u) = IsWithin (Some bytes)
-SaysOfLimits name bytes (Err e) = IsPast name bytes e
+SaysOfLimits name bytes (Err e) = IsRefused name bytes e
 
 -- how reading a file within the limits, or not within them, ends
 abbrev pub SaysOfFile : List ℕ → List ℕ → Result (Vec Record Global × Vec Skip Global) LoadFault → Type 0
 SaysOfFile name bytes (Ok contents) = IsWithin (Some bytes) × (records_of_file name bytes ≡ contents_view contents)
-SaysOfFile name bytes (Err e) = IsPast name bytes e
+SaysOfFile name bytes (Err e) = IsRefused name bytes e
 
 -- ---- the candidates of a name
 
@@ -148,7 +137,7 @@ skips_of a = (file_of a).skips
 module _ (old : Content) (source : List ℕ) (rust : Option RustVersion) where
   -- the candidates of a name, oldest first, each with its rank
   abbrev pub ranked_in : Asked → List Ranked
-  ranked_in a = ranked_among (is_locked old source a.0) rust (records_of a)
+  ranked_in a = with_ranks (is_locked old source a.0) rust (candidates_in old source a)
 
   -- the folder answered for a name with a file within the limits; these are the candidates, and these the skips before
   -- and after
@@ -213,27 +202,16 @@ module _ (old : Content) (source : List ℕ) (rust : Option RustVersion) (root :
     pub fewer : length asked < most_names
     pub fails : Fails calls failed mid name e after
 
-  -- the folder was asked for the names so far, in order, and for nothing else
-  pub record IsAskedSoFar {S : Type 0} (calls : Calls S) (before : S) (after : S) : Type 0 where
-    pub asked : List Asked
-    pub so_far : IsSoFar calls before asked after
-
   -- memory was wanting: the folder was asked for the names so far, and perhaps for the next one
   abbrev pub IsCutShort : {S : Type 0} → Calls S → (S → ℕ) → S → S → Type 0
   IsCutShort calls failed before after =
-      IsAskedSoFar calls before after ⊎ HasFailed calls failed before fault.OutOfMemory after
+      ((asked : List Asked) × IsSoFar calls before asked after) ⊎ HasFailed calls failed before fault.OutOfMemory after
 
   -- how asking for all names ends with a fault
   abbrev pub AskingEnds : {S : Type 0} → Calls S → (S → ℕ) → S → LoadFault → S → Type 0
   AskingEnds calls failed before fault.OutOfMemory after = IsCutShort calls failed before after
-  AskingEnds calls failed before (fault.FolderFailed path) after =
-      HasFailed calls failed before (fault.FolderFailed path) after
   AskingEnds calls failed before (fault.TooLarge limit.Names) after = HasTooMany calls before after
-  AskingEnds calls failed before (fault.TooLarge (limit.File n)) after =
-      HasFailed calls failed before (fault.TooLarge (limit.File n)) after
-  AskingEnds calls failed before (fault.TooLarge (limit.Lines n)) after =
-      HasFailed calls failed before (fault.TooLarge (limit.Lines n)) after
-  AskingEnds calls failed before (fault.ChecksumChanged n v) after = ⊥
+  AskingEnds calls failed before e after = HasFailed calls failed before e after
 
   abbrev pub AsksAll : {S : Type 0} → Calls S → (S → ℕ) → S → Result CatalogueView LoadFault → S → Type 0
   AsksAll calls failed before (Ok index) after = IsLoaded calls before index after
@@ -242,15 +220,14 @@ module _ (old : Content) (source : List ℕ) (rust : Option RustVersion) (root :
 -- ---- what the old lock says beside the index
 
 -- a checksum that isn't the index's: none says nothing, and neither does a version that isn't there
-abbrev pub differs : Option (List ℕ) → Option Said → Bool
-differs None found = false
-differs (Some checksum) None = false
-differs (Some checksum) (Some found) = not (same_text found.checksum checksum)
+abbrev pub differs : Option (List ℕ) → Option (List ℕ) → Bool
+differs (Some checksum) (Some found) = not (same_text found checksum)
+differs _ _ = false
 
 -- a locked package of the index's source has another checksum than the index
 abbrev pub has_changed : CatalogueView → Package → Bool
-has_changed index p = same_option p.source (Some index.source)
-    && differs p.checksum (option_map said (record_at (candidates_at index p.name) p.version))
+has_changed index p = same_option p.source (Some index.source) && differs p.checksum
+    (option_map (λ c. c.checksum) (candidate_at (candidates_of (rows_by_name index) p.name) p.version))
 
 -- the first such package
 unfoldable pub first_changed : CatalogueView → Content → Option Package
@@ -258,11 +235,8 @@ first_changed index [] = None
 first_changed index (p ∷ ps) = if has_changed index p then Some p else first_changed index ps
 
 -- the fault names the first package with another checksum
-pub record IsChanged (index : CatalogueView) (old : Content) (name : List ℕ) (version : Parts) : Type 0 where
-  pub changed : Package
-  pub first : first_changed index old ≡ Some changed
-  pub name_is : name ≡ changed.name
-  pub version_is : version ≡ changed.version
+abbrev pub IsChanged : CatalogueView → Content → List ℕ → Parts → Type 0
+IsChanged index old name version = IsSomeAnd (first_changed index old) (λ p. (name ≡ p.name) × (version ≡ p.version))
 
 abbrev pub Checks : CatalogueView → Content → Result (Unit {0}) LoadFault → Type 0
 Checks index old (Ok u) = first_changed index old ≡ None
@@ -280,22 +254,11 @@ rust_for prefer.RustFirst rust = preferred_rust rust_first rust
 
 -- in a run that has this old lock, this source and this Rust version to go by, for a root with these dependencies
 module _ (old : Content) (source : List ℕ) (rust : Option RustVersion) (root : List Dependency) where
-  -- a whole run gave an index, and a locked package has another checksum
-  pub record HasChangedChecksum {S : Type 0} (calls : Calls S) (before : S) (name : List ℕ) (version : Parts)
-      (after : S) : Type 0 where
-    pub index : CatalogueView
-    pub loaded : IsLoaded old source rust root calls before index after
-    pub changed : IsChanged index old name version
-
-  -- how loading ends
+  -- how loading ends: a whole run may give an index of which a locked package has another checksum
   abbrev pub Loads : {S : Type 0} → Calls S → (S → ℕ) → S → Result CatalogueView LoadFault → S → Type 0
   Loads calls failed before (Ok index) after =
       IsLoaded old source rust root calls before index after × (first_changed index old ≡ None)
-  Loads calls failed before (Err fault.OutOfMemory) after =
-      AskingEnds old source rust root calls failed before fault.OutOfMemory after
-  Loads calls failed before (Err (fault.FolderFailed path)) after =
-      AskingEnds old source rust root calls failed before (fault.FolderFailed path) after
-  Loads calls failed before (Err (fault.TooLarge which)) after =
-      AskingEnds old source rust root calls failed before (fault.TooLarge which) after
   Loads calls failed before (Err (fault.ChecksumChanged n v)) after =
-      HasChangedChecksum calls before n (parts_of v) after
+      (index : CatalogueView) × IsLoaded old source rust root calls before index after
+      × IsChanged index old n (parts_of v)
+  Loads calls failed before (Err e) after = AskingEnds old source rust root calls failed before e after

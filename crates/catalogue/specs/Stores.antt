@@ -30,12 +30,6 @@ same_rank Fits Fits = true
 same_rank Rest Rest = true
 same_rank _ _ = false
 
--- the rank of a record that is locked or not, and fits or not
-abbrev pub rank_by : Bool → Bool → Rank
-rank_by true fitting = Locked
-rank_by false true = Fits
-rank_by false false = Rest
-
 -- whether what a record needs fits the Rust version to go by
 abbrev pub fits_given : Option RustVersion → Option RustVersion → Bool
 fits_given None needed = true
@@ -43,7 +37,7 @@ fits_given (Some rust) needed = is_at_most needed rust
 
 -- the rank of a record, with the test for those that are locked and the Rust version to go by
 abbrev pub rank_of : (Parts → Bool) → Option RustVersion → Record → Rank
-rank_of locked rust r = rank_by (locked r.version) (fits rust r)
+rank_of locked rust r = if locked r.version then Locked else if fits rust r then Fits else Rest
 
 -- a candidate with its rank
 abbrev pub Ranked : Type 0

@@ -1,11 +1,11 @@
 //! Which records of a name are candidates, and where each stands in the order of preference.
 
-ghost use Rattle.std.specs.Prelude.{◌≡◌, ◌≤◌, ◌||◌, not, length, option_map, filter, IfOk};
+ghost use Rattle.std.specs.Prelude.{◌≡◌, ◌≤◌, ◌||◌, not, length, option_map, filter, if◌then◌else◌, IfOk};
 ghost use Rattle.std.specs.List.{AllPairs};
 ghost use Rattle.classes.specs.Classes.{rust_version_view};
 ghost use Rattle.model.specs.Candidates.{IsApart, IsOlder, is_locked, may_be_locked};
 ghost use Rattle.catalogue.specs.Loads.{packages_of_old, records_view, with_ranks, ranked_among};
-ghost use Rattle.catalogue.specs.Stores.{rank_by, fits_given, BringValid, KnowFeatures};
+ghost use Rattle.catalogue.specs.Stores.{fits_given, BringValid, KnowFeatures};
 ghost use Rattle.catalogue.specs.inner.Views.{candidates_view};
 ghost use Rattle.catalogue.specs.Stores.{most_candidates};
 
@@ -102,8 +102,8 @@ fn may_be_locked(yanked: bool, locked: bool) -> bool
 
 /// The rank of a candidate.
 fn rank_of(locked: bool, needed: Option<RustVersion>, given: Option<RustVersion>) -> Rank
-    ensures { result
-        ≡ rank_by locked (fits_given (option_map rust_version_view given) (option_map rust_version_view needed)) }
+    ensures { result ≡ (if locked then Rank.Locked else if fits_given (option_map rust_version_view given)
+        (option_map rust_version_view needed) then Rank.Fits else Rank.Rest) }
 {
     if locked {
         Rank::Locked

@@ -221,6 +221,7 @@ fn check_packages(packages: &[Package], catalogue: &Catalogue) -> Result<(), Loa
 }
 
 /// Whether a package of the run's source has another checksum than the index.
+#[tactic(auto, using(crate::proofs::Lookups::checksum_found))]
 fn has_changed(locked: &Package, catalogue: &Catalogue) -> bool
     ensures { result ≡ has_changed catalogue.now (package_view locked.now) }
 {
@@ -229,8 +230,8 @@ fn has_changed(locked: &Package, catalogue: &Catalogue) -> bool
 
 /// Whether the lock has a checksum of the package, and the index another one.
 fn differs(locked: &Package, catalogue: &Catalogue) -> bool
-    ensures { result ≡ differs (package_view locked.now).checksum
-        (option_map said (record_at (candidates_at catalogue.now locked.now.name) (package_view locked.now).version)) }
+    ensures { result ≡ differs (package_view locked.now).checksum (option_map (λ s. s.checksum) (option_map said
+        (record_at (candidates_at catalogue.now locked.now.name) (package_view locked.now).version))) }
 {
     let Some(checksum) = &locked.checksum else {
         return false;

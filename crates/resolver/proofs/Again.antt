@@ -7,8 +7,9 @@ use Rattle.std.specs.List.{All}
 use Rattle.std.proofs.lemmas.List.{length-append, length-map}
 use Rattle.std.proofs.lemmas.List.Elements.{Contains-append_cases, All-contains}
 use Rattle.std.proofs.lemmas.Option.{none-some}
-use Rattle.model.specs.Content.{Candidate, Content, Package, if_checksum, is_root, same_option}
-use Rattle.model.specs.Candidates.{Record, RustVersion, as_candidate}
+use Rattle.model.specs.Content.{Candidate, Content, Package, candidate_at, candidates_of, if_checksum, is_root}
+use Rattle.model.specs.Content.{same_option}
+use Rattle.model.specs.Candidates.{RustVersion}
 use Rattle.model.specs.Selection.{IsValidSelection}
 use Rattle.model.proofs.Lists.{in_none, in_cons, in_first, in_rest, in_map, to_map}
 use Rattle.model.proofs.Owners.{is_candidate, not_root}
@@ -19,7 +20,7 @@ use Rattle.index_reader.specs.Folders.{Files, MemoryCalls, file_at, path_of}
 use Rattle.catalogue.specs.Runs.{Asked, next_name}
 use Rattle.catalogue.specs.Loads.{IsWithin, IsSoFar, IsLoaded, Loads, store_of, differs, has_changed, first_changed}
 use Rattle.catalogue.specs.Problems.{IsRunOver, names_in, problem_in, problem_of}
-use Rattle.catalogue.specs.Stores.{CatalogueView, candidates_at, record_at, said}
+use Rattle.catalogue.specs.Stores.{CatalogueView, rows_by_name}
 use Rattle.catalogue.specs.declared.fault.LoadFault.{LoadFault}
 use Rattle.catalogue.proofs.LawsCandidates.{file_of, with_file}
 use Rattle.catalogue.proofs.LawsCatalogues.{problem-asked}
@@ -29,7 +30,6 @@ use Rattle.catalogue.proofs.LawsLists.{distinct-within}
 use Rattle.catalogue.proofs.LawsNames.{asked-distinct, turn-more}
 use Rattle.catalogue.proofs.LawsPackages.{text_option}
 use Rattle.catalogue.proofs.LawsSelections.{holds_again}
-use Rattle.selection.proofs.Lookups.{of_source}
 use Rattle.resolver.specs.Inputs.{input_wants_memory, of_load}
 use Rattle.resolver.proofs.Unstopped.{no_fault}
 
@@ -56,14 +56,14 @@ rows-names old source rust m folder index after loaded =
 -- ---- checksums
 
 -- a package whose candidate has its checksum hasn't another one
-same-checksum : (sum : Option (List ℕ)) (o : Option Record) (c : Candidate)
-    → option_and_then (if_checksum sum) (option_map as_candidate o) ≡ Some c → differs sum (option_map said o) ≡ false
+same-checksum : (sum : Option (List ℕ)) (o : Option Candidate) (c : Candidate)
+    → option_and_then (if_checksum sum) o ≡ Some c → differs sum (option_map (λ c. c.checksum) o) ≡ false
 same-checksum sum None c e = absurd (none-some c e)
 same-checksum sum (Some r) c e = by (same_option sum (Some r.checksum)) refl e
   where
-    by : (b : Bool) → same_option sum (Some r.checksum) ≡ b → cond b (Some (as_candidate r)) None ≡ Some c
-        → differs sum (Some (said r)) ≡ false
-    by true s e = ap (λ o. differs o (Some (said r))) (text_option sum r.checksum s) ∙ ap not (text-refl r.checksum)
+    by : (b : Bool) → same_option sum (Some r.checksum) ≡ b → cond b (Some r) None ≡ Some c
+        → differs sum (Some r.checksum) ≡ false
+    by true s e = ap (λ o. differs o (Some r.checksum)) (text_option sum r.checksum s) ∙ ap not (text-refl r.checksum)
     by false s e = absurd (none-some c e)
 
 none-changed : (index : CatalogueView) (content : Content)
@@ -77,16 +77,19 @@ module _ (m : ManifestView) (index : CatalogueView) (content : Content)
   unchanged : (p : Package) → Contains content p → has_changed index p ≡ false
   unchanged p c = by (same_option p.source (Some index.source)) refl
     where
+      found : Option Candidate
+      found = candidate_at (candidates_of (rows_by_name index) p.name) p.version
+
       by : (b : Bool) → same_option p.source (Some index.source) ≡ b
-          → (b && differs p.checksum (option_map said (record_at (candidates_at index p.name) p.version))) ≡ false
+          → (b && differs p.checksum (option_map (λ c. c.checksum) found)) ≡ false
       by false s = refl
       by true s =
           let at = place_of content p c in
           let other : is_root (problem_in m index) p ≡ false =
           not_root (problem_in m index) p (ap is_some (text_option p.source index.source s)) in
           let k = is_candidate (problem_in m index) content valid at.0 p (at.1, other) in
-          same-checksum p.checksum (record_at (candidates_at index p.name) p.version) k.0
-          (sym (of_source index m p s) ∙ k.1)
+          same-checksum p.checksum found k.0
+          (sym (ap (λ b. cond b (option_and_then (if_checksum p.checksum) found) None) s) ∙ k.1)
 
   pub checksums-hold : first_changed index content ≡ None
   checksums-hold = none-changed index content (λ n p c. unchanged p c)

@@ -1,14 +1,14 @@
 -- Two runs over the same map of files, with the same old lock and source, ask for the same names and load the same,
 -- whatever is preferred.
-use Rattle.std.proofs.Common.{◌≡◌, ℕ, ◌<◌, Bool, true, false, cond, ◌&&◌, List, [], ◌∷◌, ◌++◌, length, Contains, Option}
-use Rattle.std.proofs.Common.{Some, None, unwrap_or, option_map, Err, refl, sym, ap, ap₂, ◌∙◌, subst, arith}
+use Rattle.std.proofs.Common.{◌≡◌, ℕ, ◌<◌, Bool, true, cond, ◌&&◌, List, [], ◌∷◌, ◌++◌, map, length, Contains, Option}
+use Rattle.std.proofs.Common.{Some, None, option_map, Err, refl, sym, ap, ap₂, ◌∙◌, subst, arith}
 use Rattle.std.specs.List.{All}
 use Rattle.std.proofs.lemmas.List.{append-nil, append_assoc, length-append}
 use Rattle.std.proofs.lemmas.List.Elements.{All-append, Contains-append_left, Contains-append_right, All-contains}
 use Rattle.std.proofs.lemmas.Option.{none-some}
-use Rattle.model.specs.Content.{Content, same_option}
-use Rattle.model.specs.Candidates.{Record, RustVersion, is_locked}
-use Rattle.model.specs.Summary.{Dependency, same_text}
+use Rattle.model.specs.Content.{Content, candidate_at, candidates_of, same_option}
+use Rattle.model.specs.Candidates.{RustVersion, as_candidate, is_locked}
+use Rattle.model.specs.Summary.{Dependency}
 use Rattle.model.proofs.Lists.{in_first, all_none, all_cons, all_first, all_rest}
 use Rattle.manifest.specs.Manifests.{ManifestView}
 use Rattle.index_reader.specs.Folders.{Files, MemoryCalls, file_at, path_of}
@@ -16,7 +16,7 @@ use Rattle.vertices.proofs.Bound.{same-Some}
 use Rattle.catalogue.specs.Runs.{Asked, candidates_in, next_name, AreNext}
 use Rattle.catalogue.specs.Loads.{IsWithin, IsSoFar, IsLoaded, Loads, store_of, ranked_in, differs, first_changed}
 use Rattle.catalogue.specs.Problems.{problem_in, problem_of}
-use Rattle.catalogue.specs.Stores.{records, CatalogueView, candidates_at, record_at, row_at, said}
+use Rattle.catalogue.specs.Stores.{records, CatalogueView, rows_by_name}
 use Rattle.catalogue.specs.declared.fault.LoadFault.{LoadFault}
 use Rattle.catalogue.proofs.Chosen.{records-ranked}
 use Rattle.catalogue.proofs.LawsCandidates.{file_of}
@@ -86,28 +86,21 @@ module _ (old : Content) (source : List ℕ) (rust rust' : Option RustVersion) (
   records-same a = records-ranked (is_locked old source a.0) rust (candidates_in old source a)
       ∙ sym (records-ranked (is_locked old source a.0) rust' (candidates_in old source a))
 
-  -- the candidates of a name are the same, whatever their ranks
-  candidates-same : (asked : List Asked) (name : List ℕ) → candidates_at (store_of old source rust root asked) name
-      ≡ candidates_at (store_of old source rust' root asked) name
-  candidates-same [] name = refl
-  candidates-same (a ∷ asked) name = by (candidates-same asked name) (same_text name a.0)
-    where
-      found : Option RustVersion → Bool → List Record
-      found r b = records (unwrap_or (cond b (Some (ranked_in old source r a))
-          (row_at (store_of old source r root asked).rows name)) [])
-
-      by : candidates_at (store_of old source rust root asked) name
-          ≡ candidates_at (store_of old source rust' root asked) name → (b : Bool) → found rust b ≡ found rust' b
-      by rest true = records-same a
-      by rest false = rest
+  -- the candidates by name are the same, whatever their ranks
+  rows-same : (asked : List Asked)
+      → rows_by_name (store_of old source rust root asked) ≡ rows_by_name (store_of old source rust' root asked)
+  rows-same [] = refl
+  rows-same (a ∷ asked) =
+      ap₂ (λ rs rows. (a.0, map as_candidate rs) ∷ rows) (records-same a) (rows-same asked)
 
   changed-same : (asked : List Asked) (content : Content) → first_changed (store_of old source rust root asked) content
       ≡ first_changed (store_of old source rust' root asked) content
   unfolding first_changed
   changed-same asked [] = refl
   changed-same asked (p ∷ ps) = ap₂ (λ (b : Bool) o. cond b (Some p) o)
-      (ap (λ rs. same_option p.source (Some source) && differs p.checksum (option_map said (record_at rs p.version)))
-      (candidates-same asked p.name)) (changed-same asked ps)
+      (ap (λ rows. same_option p.source (Some source) && differs p.checksum
+      (option_map (λ c. c.checksum) (candidate_at (candidates_of rows p.name) p.version)))
+      (rows-same asked)) (changed-same asked ps)
 
 -- ---- the second run
 

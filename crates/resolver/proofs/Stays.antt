@@ -50,9 +50,7 @@ module _ (old : Content) (source : List ℕ) (rust : Option RustVersion) (root :
   fails-stays : (mid : Files) (name : List ℕ) (e : LoadFault) → Fails MemoryCalls failed mid name e after → after ≡ mid
   fails-stays mid name load.OutOfMemory f = asked-stays mid name after f
   fails-stays mid name (load.FolderFailed path) f = absurd f.1
-  fails-stays mid name (load.TooLarge limit.Names) f = absurd f
-  fails-stays mid name (load.TooLarge (limit.File n)) f = f.1.call.1
-  fails-stays mid name (load.TooLarge (limit.Lines n)) f = f.1.call.1
+  fails-stays mid name (load.TooLarge which) (bytes, call, past) = call.1
   fails-stays mid name (load.ChecksumChanged n v) f = absurd f
 
   stopped-stays : (e : LoadFault) → HasFailed old source rust root MemoryCalls failed before e after → after ≡ before
@@ -61,13 +59,14 @@ module _ (old : Content) (source : List ℕ) (rust : Option RustVersion) (root :
   load-stays : (r : Result CatalogueView LoadFault)
       → Loads old source rust root MemoryCalls failed before r after → after ≡ before
   load-stays (Ok index) l = chain-stays l.0.asked before after l.0.so_far.chain
-  load-stays (Err load.OutOfMemory) (inl h) = chain-stays h.asked before after h.so_far.chain
+  load-stays (Err load.OutOfMemory) (inl (asked, so_far)) = chain-stays asked before after so_far.chain
   load-stays (Err load.OutOfMemory) (inr h) = stopped-stays load.OutOfMemory h
   load-stays (Err (load.FolderFailed path)) h = stopped-stays (load.FolderFailed path) h
   load-stays (Err (load.TooLarge limit.Names)) h = chain-stays h.asked before after h.so_far.chain
   load-stays (Err (load.TooLarge (limit.File n))) h = stopped-stays (load.TooLarge (limit.File n)) h
   load-stays (Err (load.TooLarge (limit.Lines n))) h = stopped-stays (load.TooLarge (limit.Lines n)) h
-  load-stays (Err (load.ChecksumChanged n v)) h = chain-stays h.loaded.asked before after h.loaded.so_far.chain
+  load-stays (Err (load.ChecksumChanged n v)) (index, loaded, changed) =
+      chain-stays loaded.asked before after loaded.so_far.chain
 
 -- ---- the calls
 
