@@ -3,7 +3,7 @@ use Rattle.std.proofs.Common.{◌≡◌, ℕ, ◌+◌, Bool, true, false, not, n
 use Rattle.std.proofs.Common.{None, is_some, Ok, Err, Ordering, ◌⊎◌, inl, inr, refl, sym, ◌∙◌, ap}
 use Rattle.std.specs.Cmp.Lexicographic.{pointwise}
 use Rattle.std.specs.List.{AllByRecursion}
-use Rattle.std.specs.Option.{option_or}
+use Rattle.std.specs.Option.{option_map_or, option_or}
 use Rattle.std.specs.Ordering.{is_eq, ordering_then}
 use Rattle.std.proofs.lemmas.Cmp.{nat_list_eq_equiv, tied_itself}
 use Rattle.std.proofs.lemmas.List.{append_cancel_right}
@@ -16,7 +16,7 @@ use Rattle.semver.specs.declared.error.Error.{Error}
 use Rattle.semver.proofs.Grammar.{version_parts-sound, version_parts-complete}
 use Rattle.model.specs.Content.{Package, Content, same_option}
 use Rattle.model.specs.Order.{text_cmp, version_cmp, source_cmp}
-use Rattle.lockfile.specs.Locks.{version_form, source_form, is_source_form, is_form, is_form_without_source}
+use Rattle.lockfile.specs.Locks.{version_form, source_form, is_form, is_form_without_source}
 use Rattle.lockfile.specs.Locks.{places_from, places, only, place_meant}
 use Rattle.lockfile.specs.inner.Search.{IsRead, is_named, is_versioned, is_sourced}
 use Rattle.model.proofs.PackageOrder.{version_total}
@@ -34,7 +34,8 @@ Form text p = (text ≡ p.name)
 text-same : (a b : List ℕ) → a ≡ b → pointwise nat_eq a b ≡ true
 text-same a b e = rw e (nat_list_eq_equiv.refl b)
 
-source-means : (text : List ℕ) (p : Package) (o : Option (List ℕ)) → is_source_form text p o ≡ true
+source-means : (text : List ℕ) (p : Package) (o : Option (List ℕ))
+    → option_map_or (λ source. pointwise nat_eq text (source_form p source)) o false ≡ true
     → (source : List ℕ) × (o ≡ Some source) × (text ≡ source_form p source)
 source-means text p None h = cc
 source-means text p (Some source) h = (source, refl, same_text text (source_form p source) h)
@@ -57,7 +58,8 @@ form-by_version text p e = or_right _ _ (or_left _ _ (text-same text (version_fo
 form-by_source : (text : List ℕ) (p : Package) (source : List ℕ) → p.source ≡ Some source
     → text ≡ source_form p source → is_form text p ≡ true
 form-by_source text p source s e =
-    let third : is_source_form text p p.source ≡ true = rw s (text-same text (source_form p source) e) in
+    let third : option_map_or (λ source. pointwise nat_eq text (source_form p source)) p.source false ≡ true =
+    rw s (text-same text (source_form p source) e) in
     or_right _ _ (or_right _ _ third)
 
 without-from : (text : List ℕ) (p : Package) → is_form_without_source text p ≡ true

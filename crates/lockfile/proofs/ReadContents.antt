@@ -3,7 +3,7 @@ use Rattle.std.proofs.Common.{◌≡◌, ℕ, Bool, true, false, nat_lt, cond, L
 use Rattle.std.proofs.Common.{Result, Ok, Err, codes, refl, sym, ◌∙◌, subst}
 use Rattle.std.specs.List.{AllByRecursion}
 use Rattle.std.specs.List.Sorted.{IsStrictlySortedBy}
-use Rattle.std.specs.Option.{ok_or}
+use Rattle.std.specs.Option.{ok_or, option_map_or}
 use Rattle.std.specs.Ordering.{eq_by_cmp}
 use Rattle.std.specs.Result.{result_ok}
 use Rattle.toml.specs.Data.{as_array, as_table, get_member, Data, Items, no_items, item, Members}
@@ -16,7 +16,7 @@ use Rattle.model.specs.Content.{Content}
 use Rattle.model.specs.Outcome.{◌>>=◌}
 use Rattle.model.specs.Order.{IsContent, has_alike, in_order}
 use Rattle.lockfile.specs.Locks.{Unlinked, version_known, text_at, checked_name, checked_version}
-use Rattle.lockfile.specs.Locks.{plain_at, dependencies_at, unlinked_of, unlinked_in, packages_in, packages_at}
+use Rattle.lockfile.specs.Locks.{plain_at, dependencies_at, unlinked_of, unlinked_in, packages_at}
 use Rattle.lockfile.specs.Locks.{unlinked_alike, unlinked_cmp, ordered_packages, locked_packages, lists_of, content_of}
 use Rattle.lockfile.specs.Locks.{content_of_table, content_of_bytes, table_of_bytes, most_bytes}
 use Rattle.lockfile.specs.inner.Search.{IsOrdered, IsRead}
@@ -80,7 +80,8 @@ packages-read (item d rest) us e =
     subst (AllByRecursion (λ (u : Unlinked). IsRead u.locked)) (ok-same (first.0 ∷ others.0) us others.2)
     (package-read section.0 first.0 first.1, packages-read rest others.0 others.1)
 
-array-read : (o : Option Data) (us : List Unlinked) → packages_in o ≡ Ok us
+array-read : (o : Option Data) (us : List Unlinked)
+    → option_map_or (λ d. ok_or (as_array d) LockShape >>= unlinked_in) o (Ok []) ≡ Ok us
     → AllByRecursion (λ (u : Unlinked). IsRead u.locked) us
 array-read None us e = let none : [] ≡ us =
     ok-same [] us e in subst (AllByRecursion (λ (u : Unlinked). IsRead u.locked)) none tt

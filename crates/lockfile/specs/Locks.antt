@@ -4,7 +4,7 @@ use Rattle.std.specs.Prelude.{ℕ, ◌+◌, ℤ, pos, negsuc, Bool, true, false,
 use Rattle.std.specs.Prelude.{if◌then◌else◌, List, [], ◌∷◌, ◌++◌, length, map, Option, Some, None, is_some, Result, Ok}
 use Rattle.std.specs.Prelude.{Err, codes, option_and_then}
 use Rattle.std.specs.List.{list_all, zip}
-use Rattle.std.specs.Option.{ok_or, option_or}
+use Rattle.std.specs.Option.{ok_or, option_map_or, option_or}
 use Rattle.std.specs.Result.{result_ok}
 use Rattle.std.specs.Ordering.{nat_cmp}
 use Rattle.std.specs.declared.cmp.Ordering.{Ordering}
@@ -39,13 +39,11 @@ abbrev pub is_known_version : ℤ → Bool
 is_known_version (pos n) = nat_le 1 n && nat_le n 4
 is_known_version (negsuc n) = false
 
-abbrev pub version_in : Option Data → Result (Unit {0}) LockFault
-version_in None = Ok tt
-version_in (Some d) = ok_or (as_integer d) LockShape >>= λ n. guard (is_known_version n) LockVersion
-
 -- `version`: absent, or a version of the format that is read
 abbrev pub version_known : Members → Result (Unit {0}) LockFault
-version_known top = version_in (get_member (codes "version") top)
+version_known top = option_map_or
+    (λ d. ok_or (as_integer d) LockShape >>= λ n. guard (is_known_version n) LockVersion)
+    (get_member (codes "version") top) (Ok tt)
 
 -- the text at a key that has to be there
 abbrev pub text_at : List ℕ → Members → Result (List ℕ) LockFault
@@ -67,13 +65,11 @@ is_plain_byte b = nat_le 32 b && (nat_le b 126 && (not (b == 34) && not (b == 92
 abbrev pub checked_plain : List ℕ → Result (List ℕ) LockFault
 checked_plain text = if list_all is_plain_byte text then Ok text else Err LockShape
 
-abbrev pub plain_in : Option Data → Result (Option (List ℕ)) LockFault
-plain_in None = Ok None
-plain_in (Some d) = ok_or (as_str d) LockShape >>= λ text. checked_plain text >>= λ plain. Ok (Some plain)
-
 -- `source` or `checksum`, which may be absent
 abbrev pub plain_at : List ℕ → Members → Result (Option (List ℕ)) LockFault
-plain_at key section = plain_in (get_member key section)
+plain_at key section = option_map_or
+    (λ d. ok_or (as_str d) LockShape >>= λ text. checked_plain text >>= λ plain. Ok (Some plain))
+    (get_member key section) (Ok None)
 
 -- an array of texts
 unfoldable pub texts_in : Items → Result (List (List ℕ)) LockFault
@@ -83,13 +79,10 @@ texts_in (item d rest) = do
   others ← texts_in rest
   Ok (text ∷ others)
 
-abbrev pub dependencies_in : Option Data → Result (List (List ℕ)) LockFault
-dependencies_in None = Ok []
-dependencies_in (Some d) = ok_or (as_array d) LockShape >>= texts_in
-
 -- `dependencies`, empty if absent
 abbrev pub dependencies_at : Members → Result (List (List ℕ)) LockFault
-dependencies_at section = dependencies_in (get_member (codes "dependencies") section)
+dependencies_at section =
+    option_map_or (λ d. ok_or (as_array d) LockShape >>= texts_in) (get_member (codes "dependencies") section) (Ok [])
 
 -- a package with the texts of its dependencies: what these mean is still to be found, and its list is empty
 pub record Unlinked : Type 0 where
@@ -121,13 +114,10 @@ unlinked_in (item d rest) = do
   others ← unlinked_in rest
   Ok (first ∷ others)
 
-abbrev pub packages_in : Option Data → Result (List Unlinked) LockFault
-packages_in None = Ok []
-packages_in (Some d) = ok_or (as_array d) LockShape >>= unlinked_in
-
 -- `package`, none if absent
 abbrev pub packages_at : Members → Result (List Unlinked) LockFault
-packages_at top = packages_in (get_member (codes "package") top)
+packages_at top =
+    option_map_or (λ d. ok_or (as_array d) LockShape >>= unlinked_in) (get_member (codes "package") top) (Ok [])
 
 -- ---- order, and what may stand once
 
@@ -155,13 +145,10 @@ version_form p = p.name ++ (32 ∷ parts_text p.version)
 abbrev pub source_form : Package → List ℕ → List ℕ
 source_form p source = p.name ++ (32 ∷ (parts_text p.version ++ (32 ∷ (40 ∷ (source ++ (41 ∷ []))))))
 
-abbrev pub is_source_form : List ℕ → Package → Option (List ℕ) → Bool
-is_source_form text p None = false
-is_source_form text p (Some source) = same_text text (source_form p source)
-
 -- a package has the forms `name`, `name version` and, where it has a source, `name version (source)`
 abbrev pub is_form : List ℕ → Package → Bool
-is_form text p = same_text text p.name || (same_text text (version_form p) || is_source_form text p p.source)
+is_form text p = same_text text p.name || (same_text text (version_form p)
+    || option_map_or (λ source. same_text text (source_form p source)) p.source false)
 
 -- `name version` of a package without a source
 abbrev pub is_form_without_source : List ℕ → Package → Bool
