@@ -8,6 +8,7 @@ use Rattle.std.proofs.lemmas.Bool.{leb-true}
 use Rattle.std.proofs.lemmas.List.Elements.{All-append, All-map, All-weaker}
 use Rattle.std.specs.Cmp.Lexicographic.{slice_cmp}
 use Rattle.std.specs.Option.{ok_or}
+use Rattle.std.specs.Result.{result_map_both, result_ok}
 use Rattle.std.specs.Ordering.{match_ordering}
 use Rattle.std.specs.Str.{is_utf8}
 use Rattle.toml.specs.Data.{Data, string, integer, float, boolean, datetime, array, table, as_array}
@@ -30,21 +31,21 @@ use Rattle.features.specs.declared.dependency.DependencyKind.{DependencyKind}
 use Rattle.features.specs.declared.dependency.DependencyKind.TheVariants.{Normal, Dev, Build}
 use Rattle.features.proofs.ValidLemmas.{entry-valid, built-valid}
 use Rattle.manifest.specs.Values as values
-use Rattle.manifest.specs.Values.{Shaped, wanted, if_there, or_absent, text_of, flag_of, has_key, one_of}
+use Rattle.manifest.specs.Values.{Shaped, wanted, or_absent, text_of, flag_of, has_key, one_of}
 use Rattle.manifest.specs.Values.{package_name_of, feature_name_of}
 use Rattle.manifest.specs.Dependencies.{DependencyShapeView, detailed, unsupported_in}
-use Rattle.manifest.specs.Dependencies.{real_name_of, named_feature, feature_names, feature_list}
+use Rattle.manifest.specs.Dependencies.{named_feature, feature_names, feature_list}
 use Rattle.manifest.specs.Dependencies.{default_features_in, may_be_optional, dependency_in, described, dependency_of}
 use Rattle.manifest.specs.Dependencies.{dependencies_in, part_of, section_at, section_of, sections_of, targets_in}
 use Rattle.manifest.specs.Dependencies.{targets_of}
 use Rattle.manifest.specs.Packages.{package_of, workspace_of, is_written}
-use Rattle.manifest.specs.Shapes.{strong, root_entry, entries_in, feature_of, features_in, features_of}
+use Rattle.manifest.specs.Shapes.{strong, entries_in, feature_of, features_in, features_of}
 use Rattle.manifest.specs.Shapes.{all_dependencies}
 use Rattle.manifest.specs.Shapes.{ShapeView, shape_of}
-use Rattle.manifest.specs.Manifests.{ManifestView, sources_allowed, requirement_or, dependency_with, dependencies_of}
-use Rattle.manifest.specs.Manifests.{dep_name, table_or_fault, features_with, manifest_of, limit}
+use Rattle.manifest.specs.Manifests.{ManifestView, sources_allowed, dependency_with, dependencies_of}
+use Rattle.manifest.specs.Manifests.{dep_name, fault_as, features_with, manifest_of, limit}
 use Rattle.manifest.specs.declared.fault.ManifestFault.{ManifestFault}
-use Rattle.manifest.specs.declared.fault.ManifestFault.TheVariants.{Shape, UnsupportedSource}
+use Rattle.manifest.specs.declared.fault.ManifestFault.TheVariants.{Shape, UnsupportedSource, BadRequirement}
 use Rattle.manifest.specs.declared.fault.Part.{Part}
 use Rattle.manifest.specs.declared.fault.Part.TheVariants as part
 use Rattle.manifest.specs.declared.fault.Unsupported.{Unsupported}
@@ -126,19 +127,20 @@ detailed-named : (p : Part) (kind : DependencyKind) (name text : List ℕ) (s : 
     → IsPackageName name → IfOk (detailed p kind name text s t) IsNamed
 unfolding detailed
 detailed-named p kind name text s t h =
-    past IsNamed (if_there (text_of p) (get_member (codes "package") t)) _ (λ given.
-    past IsNamed (real_name_of p name given) _ (λ real_name.
+    past IsNamed
+    (or_absent name (λ d. text_of p d >>= package_name_of p) (get_member (codes "package") t)) _ (λ real_name.
     past IsNamed (or_absent false (flag_of p) (get_member (codes "optional") t)) _ (λ optional.
     past IsNamed (guard (not optional || may_be_optional kind) (Shape p)) _ (λ allowed.
     past IsNamed (default_features_in p t) _ (λ default_features.
     after (All IsFeatureName) IsNamed (or_absent [] (feature_list p) (get_member (codes "features") t)) _
-    (list-named p (get_member (codes "features") t)) (λ features g. (h, g)))))))
+    (list-named p (get_member (codes "features") t)) (λ features g. (h, g))))))
 
 table-named : (p : Part) (kind : DependencyKind) (name : List ℕ) (t : Members) → IsPackageName name
     → IfOk (dependency_in p kind name t) IsNamed
 unfolding dependency_in
 table-named p kind name t h =
-    past IsNamed (if_there (text_of p) (get_member (codes "version") t)) _ (λ version.
+    past IsNamed
+    (or_absent None (λ d. text_of p d >>= λ text. Ok (Some text)) (get_member (codes "version") t)) _ (λ version.
     past IsNamed (guard (is_some version || is_some (unsupported_in t)) (Shape p)) _ (λ described.
     detailed-named p kind name (unwrap_or version []) (unsupported_in t) t h))
 
@@ -283,7 +285,7 @@ strong-valid (model.dependency d) h = tt
 strong-valid (model.dependency_feature d g) h = h
 strong-valid (model.weak_feature d g) h = h
 
-root-valid : (text : List ℕ) → IfSome (root_entry text) IsValidEntry
+root-valid : (text : List ℕ) → IfSome (option_map strong (entry_of text)) IsValidEntry
 root-valid text = by (entry_of text) (entry-valid text)
   where
     by : (o : Option Entry) → IfSome o IsValidEntry → IfSome (option_map strong o) IsValidEntry
@@ -294,8 +296,8 @@ entries-valid : (ds : Items) → IfOk (entries_in ds) (All IsValidEntry)
 unfolding entries_in
 entries-valid no_items = all_none IsValidEntry
 entries-valid (item d ds) = past (All IsValidEntry) (text_of part.Features d) _ (λ text.
-    after IsValidEntry (All IsValidEntry) (wanted part.Features (root_entry text)) _
-    (wanted-has IsValidEntry part.Features (root_entry text) (root-valid text)) (λ first h.
+    after IsValidEntry (All IsValidEntry) (wanted part.Features (option_map strong (entry_of text))) _
+    (wanted-has IsValidEntry part.Features (option_map strong (entry_of text)) (root-valid text)) (λ first h.
     after (All IsValidEntry) (All IsValidEntry) (entries_in ds) _ (entries-valid ds) (λ others g.
     all_cons IsValidEntry first others h g)))
 
@@ -349,7 +351,8 @@ record AreFewRead (n : ℕ) (ds : List model.Dependency) : Type 0 where
 
 read-named : (d : DependencyShapeView) → IsNamed d → IfOk (dependency_with d) IsNamedRead
 unfolding dependency_with
-read-named d h = past IsNamedRead (requirement_or (d.parts).name (req_of d.text)) _ (λ requirement. h)
+read-named d h =
+    past IsNamedRead (ok_or (result_ok (req_of d.text)) (BadRequirement (d.parts).name)) _ (λ requirement. h)
 
 all-read : (ds : List DependencyShapeView) → All IsNamed ds → IfOk (dependencies_of ds) (AreFewRead (length ds))
 unfolding dependencies_of
@@ -371,7 +374,7 @@ table-valid ds written named valid = by (table_of (map dep_name ds) written) (bu
 
     by : (r : Result Table (TableFault × List ℕ))
         → ((t : Table) → All (λ d. IsPackageName d.name) (map dep_name ds) → All IsValidRow written → r ≡ Ok t
-        → All IsValidRow t) → IfOk (table_or_fault r) (All IsValidRow)
+        → All IsValidRow t) → IfOk (result_map_both (λ t. t) (λ e. fault_as e.0 e.1) r) (All IsValidRow)
     by (Ok t) h = h t names valid refl
     by (Err e) h = tt
 

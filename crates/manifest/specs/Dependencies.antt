@@ -7,7 +7,7 @@ use Rattle.model.specs.Outcome.{◌>>=◌, guard}
 use Rattle.model.specs.Summary.{Dependency}
 use Rattle.features.specs.declared.dependency.DependencyKind.{DependencyKind}
 use Rattle.features.specs.declared.dependency.DependencyKind.TheVariants.{Normal, Dev, Build}
-use Rattle.manifest.specs.Values.{Shaped, wanted, if_there, or_absent, text_of, flag_of, table_of, has_key, either_at}
+use Rattle.manifest.specs.Values.{Shaped, wanted, or_absent, text_of, flag_of, table_of, has_key, either_at}
 use Rattle.manifest.specs.Values.{package_name_of, feature_name_of}
 use Rattle.manifest.specs.declared.fault.ManifestFault.TheVariants.{Shape}
 use Rattle.manifest.specs.declared.fault.Part.{Part}
@@ -30,11 +30,6 @@ unsupported_in t = if has_key (codes "git") t then Some source.Git
     else if has_key (codes "registry") t then Some source.Registry
     else if has_key (codes "registry-index") t then Some source.Registry
     else None
-
--- the name of the package that a dependency means: `package`, where it is there
-abbrev pub real_name_of : Part → List ℕ → Option (List ℕ) → Shaped (List ℕ)
-real_name_of p name None = Ok name
-real_name_of p name (Some text) = package_name_of p text
 
 -- the feature that a text of a list names: an empty one names none
 abbrev pub named_feature : Part → List ℕ → Shaped (List (List ℕ))
@@ -68,8 +63,7 @@ may_be_optional Build = true
 unfoldable pub detailed : Part → DependencyKind → List ℕ → List ℕ → Option Unsupported → Members
     → Shaped DependencyShapeView
 detailed p kind name text unsupported t = do
-  given ← if_there (text_of p) (get_member (codes "package") t)
-  real_name ← real_name_of p name given
+  real_name ← or_absent name (λ d. text_of p d >>= package_name_of p) (get_member (codes "package") t)
   optional ← or_absent false (flag_of p) (get_member (codes "optional") t)
   allowed ← guard (not optional || may_be_optional kind) (Shape p)
   default_features ← default_features_in p t
@@ -90,7 +84,7 @@ detailed p kind name text unsupported t = do
 -- a dependency that is written as a table: only one of an unsupported source may lack a version
 unfoldable pub dependency_in : Part → DependencyKind → List ℕ → Members → Shaped DependencyShapeView
 dependency_in p kind name t = do
-  version ← if_there (text_of p) (get_member (codes "version") t)
+  version ← or_absent None (λ d. text_of p d >>= λ text. Ok (Some text)) (get_member (codes "version") t)
   described ← guard (is_some version || is_some (unsupported_in t)) (Shape p)
   detailed p kind name (unwrap_or version []) (unsupported_in t) t
 

@@ -1,13 +1,13 @@
 -- What a manifest says: a function of its bytes, or the first fault (Cargo book, "The Manifest Format", "Specifying
 -- Dependencies" and "Features").
 use Rattle.std.specs.Prelude.{ℕ, Bool, true, false, not, ◌||◌, List, [], ◌∷◌, map, Option, Result}
-use Rattle.std.specs.Prelude.{Some, None, Ok, Err, length, nat_le}
+use Rattle.std.specs.Prelude.{Ok, length, nat_le}
 use Rattle.std.specs.List.{list_any, flat_map}
-use Rattle.std.specs.Option.{ok_or}
+use Rattle.std.specs.Option.{ok_or, option_map_or}
+use Rattle.std.specs.Result.{result_ok, result_map_both}
 use Rattle.toml.specs.Data.{Members}
 use Rattle.toml.specs.Parse.{parse_document}
-use Rattle.semver.specs.Parse.{Parts, Held, req_of}
-use Rattle.semver.specs.declared.error.Error.{Error}
+use Rattle.semver.specs.Parse.{Parts, req_of}
 use Rattle.model.specs.Outcome.{◌>>=◌, guard}
 use Rattle.model.specs.Content.{of_utf8}
 use Rattle.model.specs.Summary.{Dependency, Summary, Entry, feature, dependency, dependency_feature, weak_feature}
@@ -40,13 +40,9 @@ same_source Path Path = true
 same_source Registry Registry = true
 same_source a b = false
 
-abbrev pub is_from : Unsupported → Option Unsupported → Bool
-is_from s None = false
-is_from s (Some t) = same_source s t
-
 -- some dependency is from this source
 abbrev pub uses : Unsupported → List DependencyShapeView → Bool
-uses s ds = list_any (λ d. is_from s d.unsupported) ds
+uses s ds = list_any (λ d. option_map_or (same_source s) d.unsupported false) ds
 
 -- no workspace has members, and each dependency is from the registry; or the first source, in this order, that isn't
 unfoldable pub sources_allowed : Bool → List DependencyShapeView → Result (Unit {0}) ManifestFault
@@ -58,14 +54,10 @@ sources_allowed has_members ds = do
 
 -- ---- requirements
 
-abbrev pub requirement_or : List ℕ → Result (List Held) Error → Result (List Held) ManifestFault
-requirement_or name (Ok r) = Ok r
-requirement_or name (Err e) = Err (BadRequirement name)
-
 -- a dependency with its requirement read
 unfoldable pub dependency_with : DependencyShapeView → Result Dependency ManifestFault
 dependency_with d = do
-  requirement ← requirement_or (d.parts).name (req_of d.text)
+  requirement ← ok_or (result_ok (req_of d.text)) (BadRequirement (d.parts).name)
   Ok (record (d.parts) { requirement = requirement })
 
 -- the dependencies by number, with their requirements read
@@ -88,13 +80,9 @@ fault_as no_such_feature f = RootFeature NoSuchFeature f
 fault_as no_such_dependency f = RootFeature NoSuchDependency f
 fault_as not_optional f = RootFeature NotOptional f
 
-abbrev pub table_or_fault : Result Table (TableFault × List ℕ) → Result Table ManifestFault
-table_or_fault (Ok table) = Ok table
-table_or_fault (Err e) = Err (fault_as e.0 e.1)
-
 -- the feature table of the root: of all its dependencies, dev ones too, and of the features that it writes
 abbrev pub features_with : List Dependency → Table → Result Table ManifestFault
-features_with ds written = table_or_fault (table_of (map dep_name ds) written)
+features_with ds written = result_map_both (λ t. t) (λ e. fault_as e.0 e.1) (table_of (map dep_name ds) written)
 
 -- what an entry `d/g` or `d?/g` asks of each dependency called d: all dependencies of the root are enabled
 abbrev pub asked_by : Entry → List (List ℕ × List ℕ)

@@ -1,11 +1,12 @@
 -- What a manifest says of its package, and of the workspace that it may belong to (Cargo book, "The Manifest Format"
 -- and "Workspaces").
-use Rattle.std.specs.Prelude.{ℕ, Bool, true, false, if◌then◌else◌, List, [], Option, Some, None, Result, Ok, Err, codes}
+use Rattle.std.specs.Prelude.{ℕ, Bool, true, false, if◌then◌else◌, List, [], Option, Some, None, Ok, Err, codes}
 use Rattle.std.specs.Prelude.{option_and_then}
+use Rattle.std.specs.Option.{option_map_or}
+use Rattle.std.specs.Result.{result_ok, result_unwrap_or}
 use Rattle.toml.specs.Text.{has_items}
 use Rattle.toml.specs.Data.{Data, as_str, as_array, as_table, get_member, Members}
 use Rattle.semver.specs.Parse.{Parts, version_parts}
-use Rattle.semver.specs.declared.error.Error.{Error}
 use Rattle.model.specs.Outcome.{◌>>=◌}
 use Rattle.classes.specs.Classes.{rust_version_of}
 use Rattle.tables.specs.Rows.{has_rows}
@@ -21,8 +22,7 @@ pub record PackageView : Type 0 where
 
 -- a table with the key `workspace`: what it stands for is the workspace's
 abbrev pub is_inherited : Option Members → Bool
-is_inherited (Some t) = has_key (codes "workspace") t
-is_inherited None = false
+is_inherited o = option_map_or (has_key (codes "workspace")) o false
 
 -- what a key of `[package]` says, or none where the workspace says it
 abbrev pub own_or_inherited : {A : Type 0} → (Data → Shaped A) → Data → Shaped (Option A)
@@ -35,12 +35,8 @@ name_in d = text_of part.Package d >>= package_name_of part.Package
 unfoldable pub name_of : Members → Shaped (Option (List ℕ))
 name_of section = wanted part.Package (get_member (codes "name") section) >>= own_or_inherited name_in
 
-abbrev pub version_of_text : Result Parts Error → Shaped Parts
-version_of_text (Ok v) = Ok v
-version_of_text (Err e) = Err (Shape part.Package)
-
 abbrev pub version_in : Data → Shaped Parts
-version_in d = text_of part.Package d >>= λ text. version_of_text (version_parts text)
+version_in d = text_of part.Package d >>= λ text. wanted part.Package (result_ok (version_parts text))
 
 -- `package.version`, 0.0.0 where it is absent
 unfoldable pub version_of : Members → Shaped (Option Parts)
@@ -80,17 +76,9 @@ workspace_of top = or_absent false (λ d. table_of part.Workspace d >>= members_
 abbrev pub is_written : Part → List ℕ → Members → Shaped Bool
 is_written p key top = or_absent false (λ d. table_of p d >>= λ t. Ok (has_rows t)) (get_member key top)
 
-abbrev pub or_false : Shaped Bool → Bool
-or_false (Ok b) = b
-or_false (Err e) = false
-
 -- without `[package]` there has to be a workspace with members
-abbrev pub absent_package : Bool → Shaped (Option PackageView)
-absent_package true = Ok None
-absent_package false = Err (Shape part.Package)
-
 abbrev pub package_at : Shaped Bool → Option Data → Shaped (Option PackageView)
-package_at members None = absent_package (or_false members)
+package_at members None = if result_unwrap_or members false then Ok None else Err (Shape part.Package)
 package_at members (Some d) = table_of part.Package d >>= package_in
 
 -- `[package]`, or none where its name or version is left to a workspace, or where it is absent beside a workspace with

@@ -18,16 +18,12 @@ strong (dependency d) = dependency d
 strong (dependency_feature d g) = dependency_feature d g
 strong (weak_feature d g) = dependency_feature d g
 
--- the entry that a text is in a manifest
-abbrev pub root_entry : List ℕ → Option Entry
-root_entry text = option_map strong (entry_of text)
-
 -- the entries of a feature
 unfoldable pub entries_in : Items → Shaped (List Entry)
 entries_in no_items = Ok []
 entries_in (item d ds) = do
   text ← text_of part.Features d
-  first ← wanted part.Features (root_entry text)
+  first ← wanted part.Features (option_map strong (entry_of text))
   others ← entries_in ds
   Ok (first ∷ others)
 

@@ -2,7 +2,6 @@
 use Rattle.std.specs.Prelude.{ℕ, Bool, if◌then◌else◌, List, Option, Some, None, Result, Ok, Err, is_some}
 use Rattle.std.specs.Option.{ok_or}
 use Rattle.toml.specs.Data.{Data, as_str, as_bool, as_table, get_member, Members}
-use Rattle.model.specs.Outcome.{◌>>=◌}
 use Rattle.features.specs.Names.{is_package_name, is_feature_name}
 use Rattle.manifest.specs.declared.fault.ManifestFault.{ManifestFault}
 use Rattle.manifest.specs.declared.fault.ManifestFault.TheVariants.{Shape}
@@ -15,11 +14,6 @@ Shaped A = Result A ManifestFault
 -- what a value of the wanted kind says: any other has the wrong shape
 abbrev pub wanted : {A : Type 0} → Part → Option A → Shaped A
 wanted p o = ok_or o (Shape p)
-
--- what an optional key says
-abbrev pub if_there : {A : Type 0} → (Data → Shaped A) → Option Data → Shaped (Option A)
-if_there read None = Ok None
-if_there read (Some d) = read d >>= λ a. Ok (Some a)
 
 -- what a key says that means something where it is absent, too
 abbrev pub or_absent : {A : Type 0} → A → (Data → Shaped A) → Option Data → Shaped A

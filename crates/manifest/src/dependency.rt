@@ -1,13 +1,14 @@
 //! The dependencies that a manifest writes, before their requirements are read.
 
-ghost use Rattle.std.specs.Prelude.{◌≡◌, ◌||◌, ◌++◌, [], codes, is_some, option_map};
+ghost use Rattle.std.specs.Prelude.{◌≡◌, ◌||◌, ◌++◌, [], false, codes, is_some, option_map};
+ghost use Rattle.std.specs.Option.{option_map_or};
 ghost use Rattle.toml.specs.Data.{get_member, no_members};
 ghost use Rattle.toml.specs.View.{view, table_view, array_view};
-ghost use Rattle.model.specs.Outcome.{Gives};
+ghost use Rattle.model.specs.Outcome.{Gives, ◌>>=◌ as and_then};
 ghost use Rattle.manifest.specs.Faults.{wants_memory};
-ghost use Rattle.manifest.specs.Manifests.{is_from};
-ghost use Rattle.manifest.specs.Values.{or_absent};
-ghost use Rattle.manifest.specs.Dependencies.{unsupported_in, real_name_of, detailed};
+ghost use Rattle.manifest.specs.Manifests.{same_source};
+ghost use Rattle.manifest.specs.Values.{or_absent, text_of, package_name_of};
+ghost use Rattle.manifest.specs.Dependencies.{unsupported_in, detailed};
 ghost use Rattle.manifest.specs.Dependencies.{may_be_optional, feature_names, feature_list, default_features_in};
 ghost use Rattle.manifest.specs.Dependencies.{dependency_in};
 ghost use Rattle.manifest.specs.Dependencies.{described, dependency_of, dependencies_in};
@@ -40,7 +41,7 @@ pub(crate) struct DependencyShape<'a> {
 impl DependencyShape<'_> {
     /// Whether it is from this source.
     pub(crate) fn is_from(&self, source: Unsupported) -> bool
-        ensures { result ≡ is_from source self.now.unsupported }
+        ensures { result ≡ option_map_or (same_source source) self.now.unsupported false }
     {
         match self.unsupported {
             None => false,
@@ -172,8 +173,7 @@ fn detailed<'a>(
     ensures { Gives wants_memory dependency_view result
         (detailed part kind name requirement.now unsupported (table_view table.now)) }
 {
-    let given = text_at(table, "package", part)?;
-    let real_name = real_name(alloc, &name, given, part)?;
+    let real_name = real_name(alloc, &name, table, part)?;
     let optional = flag(member(table, "optional"), false, part)?;
     check(
         !optional || may_be_optional(kind),
@@ -241,13 +241,15 @@ pub fn unsupported_in(table: &Table) -> Option<Unsupported>
 fn real_name(
     alloc: Global,
     name: &PackageName,
-    given: Option<&str>,
+    table: &Table,
     part: Part,
 ) -> Result<PackageName, ManifestFault>
-    ensures { Gives wants_memory (λ n. n) result (real_name_of part name.now (option_map (λ s. s.now) given.entry)) }
+    ensures { Gives wants_memory (λ n. n) result
+        (or_absent name.now (λ d. and_then (text_of part d) (package_name_of part))
+        (get_member (codes "package") (table_view table.now))) }
 {
-    match given {
-        Some(text) => package_name(alloc, text, part),
+    match member(table, "package") {
+        Some(value) => package_name(alloc, text(value, part)?, part),
         None => Ok(name.clone()?),
     }
 }

@@ -1,13 +1,14 @@
 //! The features that a manifest writes.
 
-ghost use Rattle.std.specs.Prelude.{◌≡◌, IfOk};
+ghost use Rattle.std.specs.Prelude.{◌≡◌, option_map, IfOk};
 ghost use Rattle.toml.specs.View.{view, table_view, array_view};
 ghost use Rattle.model.specs.Outcome.{Gives};
 ghost use Rattle.features.specs.EntryViews.{entry_view, entry_views};
+ghost use Rattle.features.specs.Names.{entry_of};
 ghost use Rattle.features.specs.inner.Tables.{rows_of};
 ghost use Rattle.manifest.specs.Faults.{wants_memory};
 ghost use Rattle.manifest.specs.Values.{wanted};
-ghost use Rattle.manifest.specs.Shapes.{strong, root_entry, entries_in, feature_of, features_in, features_of};
+ghost use Rattle.manifest.specs.Shapes.{strong, entries_in, feature_of, features_in, features_of};
 
 use crate::fault::{ManifestFault, Part};
 use crate::table::{feature_name, list, table, text};
@@ -73,7 +74,7 @@ fn entries(alloc: Global, items: &Array) -> Result<Vec<Entry>, ManifestFault>
 
 /// A text that has to be an entry of a feature, as the root means it.
 fn entry(alloc: Global, text: &str) -> Result<Entry, ManifestFault>
-    ensures { Gives wants_memory entry_view result (wanted Part.Features (root_entry text.now)) }
+    ensures { Gives wants_memory entry_view result (wanted Part.Features (option_map strong (entry_of text.now))) }
 {
     match Entry::parse(alloc, text) {
         Ok(entry) => Ok(strong(entry)),

@@ -1,6 +1,7 @@
 //! The table `[package]`.
 
 ghost use Rattle.std.specs.Prelude.{◌≡◌, option_map, IfOk, IfSome};
+ghost use Rattle.std.specs.Result.{result_ok};
 ghost use Rattle.toml.specs.Data.{as_table};
 ghost use Rattle.toml.specs.View.{view, table_view};
 ghost use Rattle.semver.specs.Grammar.{IsValid};
@@ -9,7 +10,8 @@ ghost use Rattle.semver.specs.Parse.{version_parts};
 ghost use Rattle.classes.specs.Classes.{rust_version_view};
 ghost use Rattle.model.specs.Outcome.{Gives};
 ghost use Rattle.manifest.specs.Faults.{wants_memory};
-ghost use Rattle.manifest.specs.Packages.{is_inherited, name_of, version_of_text, version_of, rust_version_in};
+ghost use Rattle.manifest.specs.Values.{wanted};
+ghost use Rattle.manifest.specs.Packages.{is_inherited, name_of, version_of, rust_version_in};
 ghost use Rattle.manifest.specs.Packages.{package_in, package_of};
 ghost use Rattle.manifest.specs.inner.ShapeViews.{package_view};
 
@@ -91,7 +93,7 @@ fn own_version(alloc: Global, section: &Table) -> Result<Option<Version>, Manife
 
 /// The version that a text has to be: that memory is wanting is another fault than that it is none.
 fn version(alloc: Global, text: &str) -> Result<Version, ManifestFault>
-    ensures value { Gives wants_memory parts_of result (version_of_text (version_parts text.now)) }
+    ensures value { Gives wants_memory parts_of result (wanted Part.Package (result_ok (version_parts text.now))) }
     ensures valid { IfOk result (λ v. IsValid (parts_of v)) }
 {
     match Version::parse(alloc, text) {

@@ -1,11 +1,11 @@
 //! Values and keys of TOML tables.
 
-ghost use Rattle.std.specs.Prelude.{◌≡◌, option_map, Some, None};
+ghost use Rattle.std.specs.Prelude.{◌≡◌, option_map, Some, None, Ok};
 ghost use Rattle.toml.specs.Data.{as_str, as_bool, as_table, as_array, get_member};
 ghost use Rattle.toml.specs.View.{view, table_view, array_view};
-ghost use Rattle.model.specs.Outcome.{Gives};
+ghost use Rattle.model.specs.Outcome.{Gives, ◌>>=◌ as and_then};
 ghost use Rattle.manifest.specs.Faults.{wants_memory};
-ghost use Rattle.manifest.specs.Values.{wanted, if_there, or_absent, text_of, flag_of, table_of, either_at};
+ghost use Rattle.manifest.specs.Values.{wanted, or_absent, text_of, flag_of, table_of, either_at};
 ghost use Rattle.manifest.specs.Values.{package_name_of, feature_name_of};
 ghost use Rattle.manifest.specs.Packages.{is_written};
 
@@ -71,7 +71,8 @@ pub(crate) fn text_at<'a>(
     part: Part,
 ) -> Result<Option<&'a str>, ManifestFault>
     ensures { Gives wants_memory (option_map (λ s. s.now)) result
-        (if_there (text_of part) (get_member key.now (table_view table.now))) }
+        (or_absent None (λ d. and_then (text_of part d) (λ text. Ok (Some text)))
+        (get_member key.now (table_view table.now))) }
 {
     match member(table, key) {
         Some(value) => Ok(Some(text(value, part)?)),

@@ -1,8 +1,9 @@
 -- The texts of a manifest: names that are names, and a version of SemVer 2.0.0.
 use Rattle.std.proofs.Common.{◌≡◌, ℕ, List, [], ◌∷◌, ◌++◌, Bool, true, false, Option, Some, None, Result, Ok, Err, not}
-use Rattle.std.proofs.Common.{◌||◌, nat_le, length, codes, is_some, unwrap_or, refl, arith}
+use Rattle.std.proofs.Common.{◌||◌, cond, nat_le, length, codes, is_some, unwrap_or, refl, arith}
 use Rattle.std.specs.List.{AllByRecursion}
 use Rattle.std.specs.Option.{ok_or}
+use Rattle.std.specs.Result.{result_ok, result_unwrap_or}
 use Rattle.toml.specs.Data.{Data, string, integer, float, boolean, datetime, array, table, as_table, get_member}
 use Rattle.toml.specs.Data.{Members, no_members, member}
 use Rattle.semver.specs.Grammar.{IsValid}
@@ -11,20 +12,20 @@ use Rattle.semver.specs.declared.error.Error.{Error}
 use Rattle.semver.proofs.Grammar.{version_parts-sound}
 use Rattle.model.specs.Outcome.{◌>>=◌, guard}
 use Rattle.features.specs.Names.{is_package_name}
-use Rattle.manifest.specs.Values.{Shaped, wanted, if_there, or_absent, text_of, flag_of, table_of, package_name_of}
+use Rattle.manifest.specs.Values.{Shaped, wanted, or_absent, text_of, flag_of, table_of, package_name_of}
 use Rattle.manifest.specs.Values.{has_key}
-use Rattle.manifest.specs.Packages.{PackageView, own_or_inherited, is_inherited, name_in, name_of, version_of_text}
-use Rattle.manifest.specs.Packages.{version_in, version_of, package_with, package_in, absent_package, or_false}
-use Rattle.manifest.specs.Packages.{package_at, package_of, rust_version_in, workspace_of, is_written}
+use Rattle.manifest.specs.Packages.{PackageView, own_or_inherited, is_inherited, name_in, name_of, version_in}
+use Rattle.manifest.specs.Packages.{version_of, package_with, package_in, package_at, package_of, rust_version_in}
+use Rattle.manifest.specs.Packages.{workspace_of, is_written}
 use Rattle.manifest.specs.Dependencies.{DependencyShapeView, detailed, unsupported_in, feature_list}
-use Rattle.manifest.specs.Dependencies.{default_features_in, may_be_optional, real_name_of, dependency_in, described}
+use Rattle.manifest.specs.Dependencies.{default_features_in, may_be_optional, dependency_in, described}
 use Rattle.manifest.specs.Dependencies.{dependency_of, dependencies_in, section_at, section_of, sections_of, targets_in}
 use Rattle.manifest.specs.Dependencies.{targets_of}
 use Rattle.manifest.specs.Shapes.{ShapeView, all_dependencies, features_of, shape_of}
 use Rattle.manifest.specs.Manifests.{ManifestView, dependency_with, dependencies_of, features_with, limit, manifest_of}
-use Rattle.manifest.specs.Manifests.{manifest_of_bytes, requirement_or, sources_allowed, table_of_bytes}
+use Rattle.manifest.specs.Manifests.{manifest_of_bytes, sources_allowed, table_of_bytes}
 use Rattle.manifest.specs.declared.fault.ManifestFault.{ManifestFault}
-use Rattle.manifest.specs.declared.fault.ManifestFault.TheVariants.{Shape, TooLarge, UnsupportedSource}
+use Rattle.manifest.specs.declared.fault.ManifestFault.TheVariants.{Shape, TooLarge, UnsupportedSource, BadRequirement}
 use Rattle.manifest.specs.declared.fault.Part.{Part}
 use Rattle.manifest.specs.declared.fault.Part.TheVariants as part
 use Rattle.manifest.specs.declared.fault.Unsupported.TheVariants.{Patch, Replace, Workspace}
@@ -48,10 +49,10 @@ name-own section =
     (λ d. inherited-or IsName name_in d
     (any IsName (text_of part.Package d) (package_name_of part.Package) (name-checked part.Package)))
 
-version-read : (text : List ℕ) → Given IsValid (version_of_text (version_parts text))
+version-read : (text : List ℕ) → Given IsValid (wanted part.Package (result_ok (version_parts text)))
 version-read text = by (version_parts text) refl
   where
-    by : (r : Result Parts Error) → version_parts text ≡ r → Given IsValid (version_of_text r)
+    by : (r : Result Parts Error) → version_parts text ≡ r → Given IsValid (wanted part.Package (result_ok r))
     by (Ok v) is = (version_parts-sound text v is).1
     by (Err e) is = tt
 
@@ -65,7 +66,8 @@ version-own section = by (get_member (codes "version") section)
     by : (o : Option Data) → Given (IfSome IsValid) (or_absent (Some (0, 0, 0, [], [])) (own_or_inherited version_in) o)
     by None = zero-valid
     by (Some d) = inherited-or IsValid version_in d
-        (any IsValid (text_of part.Package d) (λ text. version_of_text (version_parts text)) version-read)
+        (any IsValid (text_of part.Package d) (λ text. wanted part.Package (result_ok (version_parts text)))
+        version-read)
 
 abbrev IsPackage : PackageView → Type 0
 IsPackage p = IsName p.name × IsValid p.version
@@ -86,12 +88,12 @@ package-own : (top : Members) → Given (IfSome IsPackage) (package_of top)
 unfolding package_of
 package-own top = by (get_member (codes "package") top)
   where
-    absent : (b : Bool) → Given (IfSome IsPackage) (absent_package b)
+    absent : (b : Bool) → Given (IfSome IsPackage) (cond b (Ok None) (Err (Shape part.Package)))
     absent true = tt
     absent false = tt
 
     by : (o : Option Data) → Given (IfSome IsPackage) (package_at (workspace_of top) o)
-    by None = absent (or_false (workspace_of top))
+    by None = absent (result_unwrap_or (workspace_of top) false)
     by (Some d) = any (IfSome IsPackage) (table_of part.Package d) package_in package-read
 
 -- ---- the dependencies
@@ -107,24 +109,23 @@ absent-or : {A : Type 0} (P : A → Type 0) (absent : A) (read : Data → Shaped
 absent-or P absent read h k None = h
 absent-or P absent read h k (Some d) = k d
 
-real-name : (p : Part) (name : List ℕ) (o : Option (List ℕ)) → IsName name → Given IsName (real_name_of p name o)
-real-name p name None h = h
-real-name p name (Some text) h = name-checked p text
-
 detailed-shape : (p : Part) (kind : _) (name text : List ℕ) (s : _) (t : Members) → IsName name
     → Given IsShape (detailed p kind name text s t)
 unfolding detailed
-detailed-shape p kind name text s t h = any IsShape (if_there (text_of p) (get_member (codes "package") t)) _
-    (λ given. next IsName IsShape (real_name_of p name given) _ (real-name p name given h) (λ real is.
+detailed-shape p kind name text s t h = next IsName IsShape
+    (or_absent name (λ d. text_of p d >>= package_name_of p) (get_member (codes "package") t)) _
+    (absent-or IsName name (λ d. text_of p d >>= package_name_of p) h
+    (λ d. any IsName (text_of p d) (package_name_of p) (name-checked p)) (get_member (codes "package") t)) (λ real is.
     any IsShape (or_absent false (flag_of p) (get_member (codes "optional") t)) _
     (λ optional. any IsShape (guard (not optional || may_be_optional kind) (Shape p)) _ (λ allowed.
     any IsShape (default_features_in p t) _ (λ default_features.
-    any IsShape (or_absent [] (feature_list p) (get_member (codes "features") t)) _ (λ features. is))))))
+    any IsShape (or_absent [] (feature_list p) (get_member (codes "features") t)) _ (λ features. is)))))
 
 table-shape : (p : Part) (kind : _) (name : List ℕ) (t : Members) → IsName name
     → Given IsShape (dependency_in p kind name t)
 unfolding dependency_in
-table-shape p kind name t h = any IsShape (if_there (text_of p) (get_member (codes "version") t)) _
+table-shape p kind name t h = any IsShape
+    (or_absent None (λ d. text_of p d >>= λ text. Ok (Some text)) (get_member (codes "version") t)) _
     (λ version. any IsShape (guard (is_some version || is_some (unsupported_in t)) (Shape p)) _
     (λ described. detailed-shape p kind name (unwrap_or version []) (unsupported_in t) t h))
 
@@ -198,7 +199,7 @@ shape-texts top = next (IfSome IsPackage) IsShaped (package_of top) _ (package-o
 
 with-named : (d : DependencyShapeView) → IsShape d → Given MeansName (dependency_with d)
 unfolding dependency_with
-with-named d h = any MeansName (requirement_or (d.parts).name (req_of d.text)) _ (λ requirement. h)
+with-named d h = any MeansName (ok_or (result_ok (req_of d.text)) (BadRequirement (d.parts).name)) _ (λ requirement. h)
 
 all-named : (ds : List DependencyShapeView) → AreShapes ds → Given (AllByRecursion MeansName) (dependencies_of ds)
 unfolding dependencies_of
