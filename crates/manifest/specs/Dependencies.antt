@@ -1,8 +1,8 @@
 -- The dependencies that a manifest writes, before their requirements are read (Cargo book, "Specifying Dependencies").
 use Rattle.std.specs.Prelude.{ℕ, Bool, true, false, not, ◌||◌, if◌then◌else◌, List, [], ◌∷◌, ◌++◌, Option, Some, None}
 use Rattle.std.specs.Prelude.{Ok, Err, codes, is_some, unwrap_or}
-use Rattle.toml.specs.Data.{Data, string, integer, float, boolean, datetime, array, table, as_array, get_member, Items}
-use Rattle.toml.specs.Data.{no_items, item, Members, no_members, member}
+use Rattle.toml.specs.Data.{Data, string, table, as_array, get_member, Items, no_items, item, Members, no_members}
+use Rattle.toml.specs.Data.{member}
 use Rattle.model.specs.Outcome.{◌>>=◌, guard}
 use Rattle.model.specs.Summary.{Dependency}
 use Rattle.features.specs.declared.dependency.DependencyKind.{DependencyKind}
@@ -55,9 +55,8 @@ default_features_in p t =
 
 -- a dev dependency may not be optional
 abbrev pub may_be_optional : DependencyKind → Bool
-may_be_optional Normal = true
 may_be_optional Dev = false
-may_be_optional Build = true
+may_be_optional _ = true
 
 -- a dependency with this text, and what a table says more of it
 unfoldable pub detailed : Part → DependencyKind → List ℕ → List ℕ → Option Unsupported → Members
@@ -93,11 +92,7 @@ abbrev pub described : Part → DependencyKind → List ℕ → Data → Shaped 
 described p kind name (string text) = detailed p kind name text None no_members
 described p kind name (table t) = if has_key (codes "workspace") t
     then detailed p kind name [] (Some source.Workspace) no_members else dependency_in p kind name t
-described p kind name (integer z) = Err (Shape p)
-described p kind name (float x) = Err (Shape p)
-described p kind name (boolean b) = Err (Shape p)
-described p kind name (datetime dt) = Err (Shape p)
-described p kind name (array ds) = Err (Shape p)
+described p kind name _ = Err (Shape p)
 
 unfoldable pub dependency_of : Part → DependencyKind → List ℕ → Data → Shaped DependencyShapeView
 dependency_of p kind key d = do

@@ -10,7 +10,7 @@ use Rattle.toml.specs.Parse.{parse_document}
 use Rattle.semver.specs.Parse.{Parts, req_of}
 use Rattle.model.specs.Outcome.{◌>>=◌, guard}
 use Rattle.model.specs.Content.{of_utf8}
-use Rattle.model.specs.Summary.{Dependency, Summary, Entry, feature, dependency, dependency_feature, weak_feature}
+use Rattle.model.specs.Summary.{Dependency, Summary, Entry, dependency_feature, weak_feature}
 use Rattle.model.specs.Summary.{Table}
 use Rattle.model.specs.Tables.{DepName, TableFault, no_such_feature, no_such_dependency, not_optional, table_of}
 use Rattle.manifest.specs.Dependencies.{DependencyShapeView}
@@ -86,10 +86,9 @@ features_with ds written = result_map_both (λ t. t) (λ e. fault_as e.0 e.1) (t
 
 -- what an entry `d/g` or `d?/g` asks of each dependency called d: all dependencies of the root are enabled
 abbrev pub asked_by : Entry → List (List ℕ × List ℕ)
-asked_by (feature g) = []
-asked_by (dependency d) = []
 asked_by (dependency_feature d g) = (d, g) ∷ []
 asked_by (weak_feature d g) = (d, g) ∷ []
+asked_by _ = []
 
 -- what the root asks of its dependencies by its features, in the order of the table
 abbrev pub root_asks : Table → List (List ℕ × List ℕ)

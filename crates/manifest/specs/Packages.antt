@@ -52,8 +52,7 @@ rust_version_in section =
 abbrev pub package_with : Option (List ℕ) → Option Parts → Option (ℕ × ℕ × ℕ) → Option PackageView
 package_with (Some name) (Some version) rust_version =
     Some (record { name = name; version = version; rust_version = rust_version })
-package_with (Some name) None rust_version = None
-package_with None version rust_version = None
+package_with _ _ _ = None
 
 unfoldable pub package_in : Members → Shaped (Option PackageView)
 package_in section = do

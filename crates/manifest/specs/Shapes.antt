@@ -3,7 +3,7 @@
 use Rattle.std.specs.Prelude.{ℕ, Bool, List, [], ◌∷◌, ◌++◌, Option, Ok, codes, option_map}
 use Rattle.toml.specs.Data.{Data, as_array, get_member, Items, no_items, item, Members, no_members, member}
 use Rattle.model.specs.Outcome.{◌>>=◌}
-use Rattle.model.specs.Summary.{Entry, feature, dependency, dependency_feature, weak_feature, Table}
+use Rattle.model.specs.Summary.{Entry, dependency_feature, weak_feature, Table}
 use Rattle.features.specs.Names.{entry_of}
 use Rattle.manifest.specs.Values.{Shaped, wanted, or_absent, text_of, table_of, feature_name_of}
 use Rattle.manifest.specs.Packages.{PackageView, package_of, workspace_of, is_written}
@@ -13,10 +13,8 @@ use Rattle.manifest.specs.declared.section.SectionPlace.TheVariants.{Top}
 
 -- the root counts with all its dependencies, so in a manifest `d?/g` says what `d/g` does
 abbrev pub strong : Entry → Entry
-strong (feature g) = feature g
-strong (dependency d) = dependency d
-strong (dependency_feature d g) = dependency_feature d g
 strong (weak_feature d g) = dependency_feature d g
+strong e = e
 
 -- the entries of a feature
 unfoldable pub entries_in : Items → Shaped (List Entry)
