@@ -164,9 +164,8 @@ places test xs = places_from 0 test xs
 
 -- the one place, if there is just one
 abbrev pub only : List ℕ → Option ℕ
-only [] = None
 only (i ∷ []) = Some i
-only (i ∷ (j ∷ js)) = None
+only _ = None
 
 -- The place that a text means: of the one package of which it is a form. A `name version` that fits several packages
 -- means the one without a source.
