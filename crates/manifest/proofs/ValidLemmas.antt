@@ -31,15 +31,15 @@ use Rattle.features.specs.declared.dependency.DependencyKind.{DependencyKind}
 use Rattle.features.specs.declared.dependency.DependencyKind.TheVariants.{Normal, Dev, Build}
 use Rattle.features.proofs.ValidLemmas.{entry-valid, built-valid}
 use Rattle.manifest.specs.Values as values
-use Rattle.manifest.specs.Values.{Shaped, wanted, or_absent, text_of, flag_of, has_key, one_of}
+use Rattle.manifest.specs.Values.{Shaped, wanted, or_absent, each_member, text_of, flag_of, has_key, one_of}
 use Rattle.manifest.specs.Values.{package_name_of, feature_name_of}
 use Rattle.manifest.specs.Dependencies.{DependencyShapeView, detailed, unsupported_in}
 use Rattle.manifest.specs.Dependencies.{named_feature, feature_names, feature_list}
 use Rattle.manifest.specs.Dependencies.{default_features_in, may_be_optional, dependency_in, described, dependency_of}
-use Rattle.manifest.specs.Dependencies.{dependencies_in, part_of, section_at, section_of, sections_of, targets_in}
+use Rattle.manifest.specs.Dependencies.{part_of, section_at, section_of, sections_of, targets_in}
 use Rattle.manifest.specs.Dependencies.{targets_of}
 use Rattle.manifest.specs.Packages.{package_of, workspace_of, is_written}
-use Rattle.manifest.specs.Shapes.{strong, entries_in, feature_of, features_in, features_of}
+use Rattle.manifest.specs.Shapes.{strong, entries_in, feature_of, features_of}
 use Rattle.manifest.specs.Shapes.{all_dependencies}
 use Rattle.manifest.specs.Shapes.{ShapeView, shape_of}
 use Rattle.manifest.specs.Manifests.{ManifestView, sources_allowed, dependency_with, dependencies_of}
@@ -166,14 +166,14 @@ dependency-named p kind key d = after IsPackageName IsNamed (package_name_of p k
     (λ name h. described-named p kind name d h)
 
 dependencies-few : (p : Part) (kind : DependencyKind) (ms : Members)
-    → IfOk (dependencies_in p kind ms) (AreFew (members_size ms))
-unfolding dependencies_in
+    → IfOk (each_member (dependency_of p kind) ms) (AreFew (members_size ms))
+unfolding each_member
 dependencies-few p kind no_members = none-few 0
 dependencies-few p kind (member key d rest) =
     after IsNamed (AreFew (members_size (member key d rest))) (dependency_of p kind key d) _
     (dependency-named p kind key d) (λ first h.
-    after (AreFew (members_size rest)) (AreFew (members_size (member key d rest))) (dependencies_in p kind rest) _
-    (dependencies-few p kind rest) (λ others g.
+    after (AreFew (members_size rest)) (AreFew (members_size (member key d rest)))
+    (each_member (dependency_of p kind) rest) _ (dependencies-few p kind rest) (λ others g.
     record { few = omega (arith, g.few); named = all_cons IsNamed first others h g.named }))
 
 -- ---- where they stand
@@ -232,9 +232,9 @@ unfolding section_of
 section-few p kind t =
     after (λ o. IfSome o (IsWithin (members_size t))) (AreFew (members_size t)) (section_at p kind t) _
     (section-within p kind t) (λ found h.
-    table-few (members_size t) (members_size t) p (dependencies_in p kind)
-    (λ ms le. wider (members_size ms) (members_size t) (dependencies_in p kind ms) le (dependencies-few p kind ms))
-    found h)
+    table-few (members_size t) (members_size t) p (each_member (dependency_of p kind))
+    (λ ms le. wider (members_size ms) (members_size t) (each_member (dependency_of p kind) ms) le
+    (dependencies-few p kind ms)) found h)
 
 sections-few : (place : SectionPlace) (t : Members) → IfOk (sections_of place t) (AreFew (3 * members_size t))
 unfolding sections_of
@@ -308,21 +308,21 @@ feature-valid key d =
     past IsValidRow (wanted part.Features (as_array d)) _ (λ ds.
     after (All IsValidEntry) IsValidRow (entries_in ds) _ (entries-valid ds) (λ entries g. (h, g))))
 
-rows-valid : (ms : Members) → IfOk (features_in ms) (All IsValidRow)
-unfolding features_in
+rows-valid : (ms : Members) → IfOk (each_member feature_of ms) (All IsValidRow)
+unfolding each_member
 rows-valid no_members = all_none IsValidRow
 rows-valid (member key d rest) =
     after IsValidRow (All IsValidRow) (feature_of key d) _ (feature-valid key d) (λ first h.
-    after (All IsValidRow) (All IsValidRow) (features_in rest) _ (rows-valid rest) (λ others g.
+    after (All IsValidRow) (All IsValidRow) (each_member feature_of rest) _ (rows-valid rest) (λ others g.
     all_cons IsValidRow first others h g))
 
 features-valid : (top : Members) → IfOk (features_of top) (All IsValidRow)
 features-valid top = by (get_member (codes "features") top)
   where
     by : (o : Option Data)
-        → IfOk (or_absent [] (λ d. values.table_of part.Features d >>= features_in) o) (All IsValidRow)
+        → IfOk (or_absent [] (λ d. values.table_of part.Features d >>= each_member feature_of) o) (All IsValidRow)
     by None = all_none IsValidRow
-    by (Some d) = past (All IsValidRow) (values.table_of part.Features d) features_in rows-valid
+    by (Some d) = past (All IsValidRow) (values.table_of part.Features d) (each_member feature_of) rows-valid
 
 -- ---- the whole
 

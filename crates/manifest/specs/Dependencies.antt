@@ -7,8 +7,8 @@ use Rattle.model.specs.Outcome.{◌>>=◌, guard}
 use Rattle.model.specs.Summary.{Dependency}
 use Rattle.features.specs.declared.dependency.DependencyKind.{DependencyKind}
 use Rattle.features.specs.declared.dependency.DependencyKind.TheVariants.{Normal, Dev, Build}
-use Rattle.manifest.specs.Values.{Shaped, wanted, or_absent, text_of, flag_of, table_of, has_key, either_at}
-use Rattle.manifest.specs.Values.{package_name_of, feature_name_of}
+use Rattle.manifest.specs.Values.{Shaped, wanted, or_absent, each_member, text_of, flag_of, table_of, has_key}
+use Rattle.manifest.specs.Values.{either_at, package_name_of, feature_name_of}
 use Rattle.manifest.specs.declared.fault.ManifestFault.TheVariants.{Shape}
 use Rattle.manifest.specs.declared.fault.Part.{Part}
 use Rattle.manifest.specs.declared.fault.Part.TheVariants as part
@@ -99,14 +99,6 @@ dependency_of p kind key d = do
   name ← package_name_of p key
   described p kind name d
 
--- the dependencies of a table, in the order of their names
-unfoldable pub dependencies_in : Part → DependencyKind → Members → Shaped (List DependencyShapeView)
-dependencies_in p kind no_members = Ok []
-dependencies_in p kind (member key d rest) = do
-  first ← dependency_of p kind key d
-  others ← dependencies_in p kind rest
-  Ok (first ∷ others)
-
 -- the part that a table of dependencies is
 abbrev pub part_of : SectionPlace → DependencyKind → Part
 part_of Top Normal = part.Dependencies
@@ -123,7 +115,7 @@ section_at p Build t = either_at p (codes "build-dependencies") (codes "build_de
 unfoldable pub section_of : Part → DependencyKind → Members → Shaped (List DependencyShapeView)
 section_of p kind t = do
   found ← section_at p kind t
-  or_absent [] (λ d. table_of p d >>= dependencies_in p kind) found
+  or_absent [] (λ d. table_of p d >>= each_member (dependency_of p kind)) found
 
 -- the dependencies that stand at the top, or in a target: normal, dev and build ones
 unfoldable pub sections_of : SectionPlace → Members → Shaped (List DependencyShapeView)

@@ -1,11 +1,11 @@
 -- The shape of a manifest: what its tables say before requirements are read, part by part (Cargo book, "The Manifest
 -- Format" and "Features").
 use Rattle.std.specs.Prelude.{ℕ, Bool, List, [], ◌∷◌, ◌++◌, Option, Ok, codes, option_map}
-use Rattle.toml.specs.Data.{Data, as_array, get_member, Items, no_items, item, Members, no_members, member}
+use Rattle.toml.specs.Data.{Data, as_array, get_member, Items, no_items, item, Members}
 use Rattle.model.specs.Outcome.{◌>>=◌}
 use Rattle.model.specs.Summary.{Entry, dependency_feature, weak_feature, Table}
 use Rattle.features.specs.Names.{entry_of}
-use Rattle.manifest.specs.Values.{Shaped, wanted, or_absent, text_of, table_of, feature_name_of}
+use Rattle.manifest.specs.Values.{Shaped, wanted, or_absent, each_member, text_of, table_of, feature_name_of}
 use Rattle.manifest.specs.Packages.{PackageView, package_of, workspace_of, is_written}
 use Rattle.manifest.specs.Dependencies.{DependencyShapeView, sections_of, targets_of}
 use Rattle.manifest.specs.declared.fault.Part.TheVariants as part
@@ -33,17 +33,10 @@ feature_of key d = do
   entries ← entries_in items
   Ok (name, entries)
 
--- the features of a table, by the bytes of their names: a table of TOML has its keys in this order, each once
-unfoldable pub features_in : Members → Shaped Table
-features_in no_members = Ok []
-features_in (member key d rest) = do
-  first ← feature_of key d
-  others ← features_in rest
-  Ok (first ∷ others)
-
 -- `[features]`
 abbrev pub features_of : Members → Shaped Table
-features_of top = or_absent [] (λ d. table_of part.Features d >>= features_in) (get_member (codes "features") top)
+features_of top =
+    or_absent [] (λ d. table_of part.Features d >>= each_member feature_of) (get_member (codes "features") top)
 
 -- the dependencies by number: those at the top, then those of the targets
 unfoldable pub all_dependencies : Members → Shaped (List DependencyShapeView)

@@ -1,7 +1,8 @@
 -- Values and keys in the tables of a manifest (Cargo book, "The Manifest Format"; TOML).
-use Rattle.std.specs.Prelude.{ℕ, Bool, if◌then◌else◌, List, Option, Some, None, Result, Ok, Err, is_some}
+use Rattle.std.specs.Prelude.{ℕ, Bool, if◌then◌else◌, List, [], ◌∷◌, Option, Some, None, Result, Ok, Err, is_some}
 use Rattle.std.specs.Option.{ok_or}
-use Rattle.toml.specs.Data.{Data, as_str, as_bool, as_table, get_member, Members}
+use Rattle.toml.specs.Data.{Data, as_str, as_bool, as_table, get_member, Members, no_members, member}
+use Rattle.model.specs.Outcome.{◌>>=◌}
 use Rattle.features.specs.Names.{is_package_name, is_feature_name}
 use Rattle.manifest.specs.declared.fault.ManifestFault.{ManifestFault}
 use Rattle.manifest.specs.declared.fault.ManifestFault.TheVariants.{Shape}
@@ -19,6 +20,14 @@ wanted p o = ok_or o (Shape p)
 abbrev pub or_absent : {A : Type 0} → A → (Data → Shaped A) → Option Data → Shaped A
 or_absent absent read None = Ok absent
 or_absent absent read (Some d) = read d
+
+-- what the members of a table say, by the bytes of their keys: a table of TOML has its keys in this order, each once
+unfoldable pub each_member : {A : Type 0} → (List ℕ → Data → Shaped A) → Members → Shaped (List A)
+each_member read no_members = Ok []
+each_member read (member key d rest) = do
+  first ← read key d
+  others ← each_member read rest
+  Ok (first ∷ others)
 
 abbrev pub text_of : Part → Data → Shaped (List ℕ)
 text_of p d = wanted p (as_str d)

@@ -7,11 +7,11 @@ ghost use Rattle.toml.specs.View.{view, table_view, array_view};
 ghost use Rattle.model.specs.Outcome.{Gives, ◌>>=◌ as and_then};
 ghost use Rattle.manifest.specs.Faults.{wants_memory};
 ghost use Rattle.manifest.specs.Manifests.{same_source};
-ghost use Rattle.manifest.specs.Values.{or_absent, text_of, package_name_of};
+ghost use Rattle.manifest.specs.Values.{or_absent, each_member, text_of, package_name_of};
 ghost use Rattle.manifest.specs.Dependencies.{unsupported_in, detailed};
 ghost use Rattle.manifest.specs.Dependencies.{may_be_optional, feature_names, feature_list, default_features_in};
 ghost use Rattle.manifest.specs.Dependencies.{dependency_in};
-ghost use Rattle.manifest.specs.Dependencies.{described, dependency_of, dependencies_in};
+ghost use Rattle.manifest.specs.Dependencies.{described, dependency_of};
 ghost use Rattle.manifest.specs.inner.ShapeViews.{dependency_view, dependency_views};
 
 use crate::check::check;
@@ -51,7 +51,7 @@ impl DependencyShape<'_> {
 }
 
 /// The dependencies of one table.
-#[tactic(auto, unfolding(crate::specs::Dependencies::dependencies_in))]
+#[tactic(auto, unfolding(crate::specs::Values::each_member))]
 pub(crate) fn dependencies_in(
     alloc: Global,
     table: &Table,
@@ -59,7 +59,7 @@ pub(crate) fn dependencies_in(
     kind: DependencyKind,
 ) -> Result<Vec<DependencyShape<'_>>, ManifestFault>
     ensures { Gives wants_memory
-        (λ v. dependency_views v.items) result (dependencies_in part kind (table_view table.now)) }
+        (λ v. dependency_views v.items) result (each_member (dependency_of part kind) (table_view table.now)) }
 {
     let mut found = Vec::new(alloc);
     'members: for (key, value) in table.iter() {

@@ -7,8 +7,8 @@ ghost use Rattle.features.specs.EntryViews.{entry_view, entry_views};
 ghost use Rattle.features.specs.Names.{entry_of};
 ghost use Rattle.features.specs.inner.Tables.{rows_of};
 ghost use Rattle.manifest.specs.Faults.{wants_memory};
-ghost use Rattle.manifest.specs.Values.{wanted};
-ghost use Rattle.manifest.specs.Shapes.{strong, entries_in, feature_of, features_in, features_of};
+ghost use Rattle.manifest.specs.Values.{wanted, each_member};
+ghost use Rattle.manifest.specs.Shapes.{strong, entries_in, feature_of, features_of};
 
 use crate::fault::{ManifestFault, Part};
 use crate::table::{feature_name, list, table, text};
@@ -31,12 +31,12 @@ pub(crate) fn written_features(
     }
 }
 
-#[tactic(auto, unfolding(crate::specs::Shapes::features_in))]
+#[tactic(auto, unfolding(crate::specs::Values::each_member))]
 fn features_in(
     alloc: Global,
     table: &Table,
 ) -> Result<BTreeMap<FeatureName, Vec<Entry>>, ManifestFault>
-    ensures { Gives wants_memory (λ m. rows_of m.entries) result (features_in (table_view table.now)) }
+    ensures { Gives wants_memory (λ m. rows_of m.entries) result (each_member feature_of (table_view table.now)) }
 {
     let mut found = BTreeMap::new(alloc);
     'members: for (key, value) in table.iter() {

@@ -12,14 +12,14 @@ use Rattle.semver.specs.declared.error.Error.{Error}
 use Rattle.semver.proofs.Grammar.{version_parts-sound}
 use Rattle.model.specs.Outcome.{◌>>=◌, guard}
 use Rattle.features.specs.Names.{is_package_name}
-use Rattle.manifest.specs.Values.{Shaped, wanted, or_absent, text_of, flag_of, table_of, package_name_of}
+use Rattle.manifest.specs.Values.{Shaped, wanted, or_absent, each_member, text_of, flag_of, table_of, package_name_of}
 use Rattle.manifest.specs.Values.{has_key}
 use Rattle.manifest.specs.Packages.{PackageView, own_or_inherited, is_inherited, name_in, name_of, version_in}
 use Rattle.manifest.specs.Packages.{version_of, package_with, package_in, package_at, package_of, rust_version_in}
 use Rattle.manifest.specs.Packages.{workspace_of, is_written}
 use Rattle.manifest.specs.Dependencies.{DependencyShapeView, detailed, unsupported_in, feature_list}
 use Rattle.manifest.specs.Dependencies.{default_features_in, may_be_optional, dependency_in, described}
-use Rattle.manifest.specs.Dependencies.{dependency_of, dependencies_in, section_at, section_of, sections_of, targets_in}
+use Rattle.manifest.specs.Dependencies.{dependency_of, section_at, section_of, sections_of, targets_in}
 use Rattle.manifest.specs.Dependencies.{targets_of}
 use Rattle.manifest.specs.Shapes.{ShapeView, all_dependencies, features_of, shape_of}
 use Rattle.manifest.specs.Manifests.{ManifestView, dependency_with, dependencies_of, features_with, limit, manifest_of}
@@ -147,19 +147,20 @@ unfolding dependency_of
 dependency-shape p kind key d =
     next IsName IsShape (package_name_of p key) _ (name-checked p key) (λ name h. described-shape p kind name d h)
 
-dependencies-shape : (p : Part) (kind : _) (t : Members) → Given AreShapes (dependencies_in p kind t)
-unfolding dependencies_in
+dependencies-shape : (p : Part) (kind : _) (t : Members) → Given AreShapes (each_member (dependency_of p kind) t)
+unfolding each_member
 dependencies-shape p kind no_members = tt
 dependencies-shape p kind (member key d rest) =
     next IsShape AreShapes (dependency_of p kind key d) _ (dependency-shape p kind key d) (λ first is.
-    next AreShapes AreShapes (dependencies_in p kind rest) _ (dependencies-shape p kind rest) (λ others are. (is, are)))
+    next AreShapes AreShapes (each_member (dependency_of p kind) rest) _ (dependencies-shape p kind rest)
+    (λ others are. (is, are)))
 
 section-shape : (p : Part) (kind : _) (t : Members) → Given AreShapes (section_of p kind t)
 unfolding section_of
 section-shape p kind t =
-    any AreShapes (section_at p kind t) (or_absent [] (λ d. table_of p d >>= dependencies_in p kind))
-    (absent-or AreShapes [] (λ d. table_of p d >>= dependencies_in p kind) tt
-    (λ d. any AreShapes (table_of p d) (dependencies_in p kind) (dependencies-shape p kind)))
+    any AreShapes (section_at p kind t) (or_absent [] (λ d. table_of p d >>= each_member (dependency_of p kind)))
+    (absent-or AreShapes [] (λ d. table_of p d >>= each_member (dependency_of p kind)) tt
+    (λ d. any AreShapes (table_of p d) (each_member (dependency_of p kind)) (dependencies-shape p kind)))
 
 sections-shape : (place : _) (t : Members) → Given AreShapes (sections_of place t)
 unfolding sections_of

@@ -1,11 +1,11 @@
 use Rattle.std.proofs.Common.{rules}
-use Rattle.manifest.specs.Dependencies.{dependencies_in}
+use Rattle.manifest.specs.Values.{each_member}
 use Rattle.manifest.specs.inner.ShapeViews.{dependency_view}
 use Rattle.model.proofs.Fronts.{pushed}
 use Rattle.manifest.proofs.dependency.dependencies_in.Goals as goal
 
 pub members-preserved : goal.members-preserved
-unfolding dependencies_in
+unfolding each_member
 members-preserved c = record {
   can = tt;
   finite = tt;

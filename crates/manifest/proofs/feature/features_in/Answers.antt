@@ -1,5 +1,5 @@
 use Rattle.std.proofs.Common.{rules}
-use Rattle.manifest.specs.Shapes.{features_in}
+use Rattle.manifest.specs.Values.{each_member}
 use Rattle.manifest.proofs.FeatureLemmas.{row_view, key_texts, texts_rise, inserted}
 use Rattle.model.proofs.Fronts.{pushed}
 use Rattle.manifest.proofs.feature.features_in.Goals as goal
@@ -9,7 +9,7 @@ members-init c = let rising = texts_rise _ c.iter-key-items.ensures.ordered in
     record { can = tt; finite = tt; sorted = search rules; told = search rules }
 
 pub members-preserved-in_ok-insert : goal.members-preserved-in_ok-insert
-unfolding features_in
+unfolding each_member
 members-preserved-in_ok-insert c =
     let last = inserted c.members.found.entries _ c.in_ok-name.name _
     (key_texts c.next.new.self) c.in_ok-insert.ensures.entries (search rules) in
@@ -22,7 +22,7 @@ members-preserved-in_ok-insert c =
     }
 
 pub members-preserved : goal.members-preserved
-unfolding features_in
+unfolding each_member
 members-preserved c =
     let last = inserted c.members.found.entries _ c.in_ok-name.name _
     (key_texts c.next.new.self) c.in_ok-insert.ensures.entries (search rules) in

@@ -3,7 +3,8 @@ use Rattle.std.specs.List.Sorted.{IsStrictlySortedBy}
 use Rattle.toml.specs.View.{members_view}
 use Rattle.features.specs.inner.Tables.{rows_of}
 use Rattle.model.specs.Order.{text_cmp}
-use Rattle.manifest.specs.Shapes.{features_in}
+use Rattle.manifest.specs.Shapes.{feature_of}
+use Rattle.manifest.specs.Values.{each_member}
 use Rattle.model.proofs.Fronts.{with_front}
 use Rattle.manifest.proofs.FeatureLemmas.{key_texts, row_names}
 use Rattle.manifest.proofs.feature.features_in.Given as goal
@@ -15,6 +16,6 @@ invariant-members l =
       can : (goal.iterator-members).can_next l.key-iterator;
       finite : (goal.iterator-members).is_finite l.key-iterator;
       sorted : IsStrictlySortedBy text_cmp (row_names l.found.entries ++ key_texts l.key-iterator);
-      told : with_front (rows_of l.found.entries) (features_in (members_view l.key-iterator))
-          ≡ features_in (members_view l.fn.table.entries);
+      told : with_front (rows_of l.found.entries) (each_member feature_of (members_view l.key-iterator))
+          ≡ each_member feature_of (members_view l.fn.table.entries);
     }
