@@ -3,6 +3,7 @@ use Rattle.std.proofs.Common.{◌≡◌, ℕ, ◌<◌, ◌≤◌, true, false, n
 use Rattle.std.proofs.Common.{Option, Some, None, Ok, Ordering, refl, ◌∙◌, ap, arith}
 use Rattle.std.specs.List.{AllByRecursion, All, AllPairs, zip}
 use Rattle.std.specs.List.Sorted.{IsStrictlySortedBy, IsPermutation}
+use Rattle.std.specs.Option.{ok_or}
 use Rattle.std.specs.Ordering.{nat_cmp, is_gt, eq_by_cmp}
 use Rattle.std.specs.declared.cmp.Ordering.TheVariants.{Less}
 use Rattle.std.proofs.lemmas.Bool.Decides.{nat_tests}
@@ -12,13 +13,14 @@ use Rattle.std.proofs.lemmas.List.Sorted.{IsPermutation-refl, IsPermutation-sym,
 use Rattle.std.proofs.lemmas.List.Sorted.{IsPermutation-trans, IsPermutation-middle}
 use Rattle.std.proofs.lemmas.Map.Keys.{IsDistinct-from_sorted}
 use Rattle.std.proofs.lemmas.Option.{slice_get-get_or}
+use Rattle.toml.specs.Data.{as_str, table}
 use Rattle.semver.specs.Grammar.{IsValid}
 use Rattle.semver.specs.Parse.{Parts}
 use Rattle.semver.proofs.Grammar.{version_parts-complete}
 use Rattle.features.specs.Names.{is_package_name}
 use Rattle.model.specs.Content.{Package, Content}
 use Rattle.model.specs.Order.{package_cmp, IsContent, has_alike, put_in, in_order}
-use Rattle.lockfile.specs.Locks.{Unlinked, version_known, unlinked_of, unlinked_in, packages_at, texts_in}
+use Rattle.lockfile.specs.Locks.{Unlinked, version_known, unlinked_of, each_item, packages_at}
 use Rattle.lockfile.specs.Locks.{unlinked_alike, unlinked_cmp, ordered_packages, locked_packages, linked, place_meant}
 use Rattle.lockfile.specs.Locks.{places_meant, ordered_places, list_of, lists_of, content_of, content_of_table}
 use Rattle.lockfile.specs.Locks.{content_of_bytes, table_of_bytes, most_bytes}
@@ -26,6 +28,7 @@ use Rattle.lockfile.specs.inner.Search.{IsOrdered, IsRead}
 use Rattle.lockfile.specs.Spelling.{dependency_text, listed_cmp, at_places, list_texts, spelling, text_items}
 use Rattle.lockfile.specs.Spelling.{section_of, sections_of, table_of, IsPlain, IsWritable}
 use Rattle.lockfile.specs.inner.Written.{AreRead}
+use Rattle.lockfile.specs.declared.fault.LockFault.TheVariants.{LockShape}
 use Rattle.lockfile.proofs.Means.{unlisted, text-means, means-unlisted}
 use Rattle.lockfile.proofs.PackageOrder.{package-eq, unlinked_total}
 use Rattle.lockfile.proofs.PlaceOrder.{repeats}
@@ -90,21 +93,21 @@ list-back content p o r h s =
 
 -- ---- a section is read back
 
-texts-back : (texts : List (List ℕ)) → texts_in (text_items texts) ≡ Ok texts
-unfolding texts_in
+texts-back : (texts : List (List ℕ)) → each_item (λ d. ok_or (as_str d) LockShape) (text_items texts) ≡ Ok texts
+unfolding each_item
 texts-back [] = refl
 texts-back (text ∷ texts) = rw (texts-back texts) refl
 
 section-back : (name : List ℕ) (version : Parts) (source checksum : Option (List ℕ)) (list : List ℕ)
     (texts : List (List ℕ)) → is_package_name name ≡ true → IsValid version → IsPlain source → IsPlain checksum
-    → unlinked_of (section_of (record {
+    → unlinked_of (table (section_of (record {
       name = name;
       version = version;
       source = source;
       checksum =
           checksum;
       list = list;
-    }) texts)
+    }) texts))
     ≡ Ok (record {
       locked =
           record { name = name; version = version; source = source; checksum = checksum; list = [] };
@@ -130,11 +133,11 @@ abbrev unlinked : Content → Package → Unlinked
 unlinked content p = record { locked = unlisted p; texts = list_texts content p }
 
 sections-back : (content ps : Content) → AllByRecursion IsWritable ps
-    → unlinked_in (sections_of content ps) ≡ Ok (map (unlinked content) ps)
-unfolding unlinked_in
+    → each_item unlinked_of (sections_of content ps) ≡ Ok (map (unlinked content) ps)
+unfolding each_item
 sections-back content [] h = refl
 sections-back content (p ∷ ps) h =
-    let first : unlinked_of (section_of p (list_texts content p)) ≡ Ok (unlinked content p) =
+    let first : unlinked_of (table (section_of p (list_texts content p))) ≡ Ok (unlinked content p) =
     section-back p.name p.version p.source p.checksum p.list
     (list_texts content p) h.0.named h.0.reads h.0.source h.0.checksum in
     rw (first, sections-back content ps h.1) refl

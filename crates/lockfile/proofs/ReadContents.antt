@@ -15,8 +15,8 @@ use Rattle.features.specs.Names.{is_package_name}
 use Rattle.model.specs.Content.{Content}
 use Rattle.model.specs.Outcome.{◌>>=◌}
 use Rattle.model.specs.Order.{IsContent, has_alike, in_order}
-use Rattle.lockfile.specs.Locks.{Unlinked, version_known, text_at, checked_name, checked_version}
-use Rattle.lockfile.specs.Locks.{plain_at, dependencies_at, unlinked_of, unlinked_in, packages_at}
+use Rattle.lockfile.specs.Locks.{Unlinked, version_known, text_at, checked, checked_version}
+use Rattle.lockfile.specs.Locks.{plain_at, dependencies_at, unlinked_of, each_item, packages_at}
 use Rattle.lockfile.specs.Locks.{unlinked_alike, unlinked_cmp, ordered_packages, locked_packages, lists_of, content_of}
 use Rattle.lockfile.specs.Locks.{content_of_table, content_of_bytes, table_of_bytes, most_bytes}
 use Rattle.lockfile.specs.inner.Search.{IsOrdered, IsRead}
@@ -27,13 +27,13 @@ use Rattle.model.proofs.Sorting.{has_alike-agrees, distinct-from_none, sorted-in
 
 -- ---- names and versions are what their texts read as
 
-named : (text name : List ℕ) → (b : Bool) → is_package_name text ≡ b → checked_name text ≡ Ok name
+named : (text name : List ℕ) → (b : Bool) → is_package_name text ≡ b → checked is_package_name text ≡ Ok name
     → is_package_name name ≡ true
 named text name true h e =
-    let is : checked_name text ≡ Ok text = rw h refl in
+    let is : checked is_package_name text ≡ Ok text = rw h refl in
     let same : text ≡ name = ok-same text name (sym is ∙ e) in
     subst (λ t. is_package_name t ≡ true) same h
-named text name false h e = let is : checked_name text ≡ Err LockShape = rw h refl in cc
+named text name false h e = let is : checked is_package_name text ≡ Err LockShape = rw h refl in cc
 
 valid : (text : List ℕ) (v : Parts) → (r : Result Parts Error) → version_parts text ≡ r
     → ok_or (result_ok r) LockShape ≡ Ok v → IsValid v
@@ -42,16 +42,17 @@ valid text v (Ok w) h e =
     subst IsValid same (version_parts-sound text w h).1
 valid text v (Err f) h e = cc
 
-package-read : (section : Members) (u : Unlinked) → unlinked_of section ≡ Ok u → IsRead u.locked
+package-read : (d : Data) (u : Unlinked) → unlinked_of d ≡ Ok u → IsRead u.locked
 unfolding unlinked_of
-package-read section u e =
-    let name_text = bind-ok (text_at (codes "name") section) _ u e in
-    let name = bind-ok (checked_name name_text.0) _ u name_text.2 in
-    let version_text = bind-ok (text_at (codes "version") section) _ u name.2 in
+package-read d u e =
+    let section = bind-ok (ok_or (as_table d) LockShape) _ u e in
+    let name_text = bind-ok (text_at (codes "name") section.0) _ u section.2 in
+    let name = bind-ok (checked is_package_name name_text.0) _ u name_text.2 in
+    let version_text = bind-ok (text_at (codes "version") section.0) _ u name.2 in
     let version = bind-ok (checked_version version_text.0) _ u version_text.2 in
-    let source = bind-ok (plain_at (codes "source") section) _ u version.2 in
-    let checksum = bind-ok (plain_at (codes "checksum") section) _ u source.2 in
-    let texts = bind-ok (dependencies_at section) _ u checksum.2 in
+    let source = bind-ok (plain_at (codes "source") section.0) _ u version.2 in
+    let checksum = bind-ok (plain_at (codes "checksum") section.0) _ u source.2 in
+    let texts = bind-ok (dependencies_at section.0) _ u checksum.2 in
     let named_so : is_package_name name.0 ≡ true = named name_text.0 name.0 _ refl name.1 in
     let valid_so : IsValid version.0 = valid version_text.0 version.0 _ refl version.1 in
     subst (λ (w : Unlinked). IsRead w.locked)
@@ -68,25 +69,24 @@ package-read section u e =
     }) u texts.2)
     (named_so, valid_so)
 
-packages-read : (items : Items) (us : List Unlinked) → unlinked_in items ≡ Ok us
+packages-read : (items : Items) (us : List Unlinked) → each_item unlinked_of items ≡ Ok us
     → AllByRecursion (λ (u : Unlinked). IsRead u.locked) us
-unfolding unlinked_in
+unfolding each_item
 packages-read no_items us e = let none : [] ≡ us =
     ok-same [] us e in subst (AllByRecursion (λ (u : Unlinked). IsRead u.locked)) none tt
 packages-read (item d rest) us e =
-    let section = bind-ok (ok_or (as_table d) LockShape) _ us e in
-    let first = bind-ok (unlinked_of section.0) _ us section.2 in
-    let others = bind-ok (unlinked_in rest) _ us first.2 in
+    let first = bind-ok (unlinked_of d) _ us e in
+    let others = bind-ok (each_item unlinked_of rest) _ us first.2 in
     subst (AllByRecursion (λ (u : Unlinked). IsRead u.locked)) (ok-same (first.0 ∷ others.0) us others.2)
-    (package-read section.0 first.0 first.1, packages-read rest others.0 others.1)
+    (package-read d first.0 first.1, packages-read rest others.0 others.1)
 
 array-read : (o : Option Data) (us : List Unlinked)
-    → option_map_or (λ d. ok_or (as_array d) LockShape >>= unlinked_in) o (Ok []) ≡ Ok us
+    → option_map_or (λ d. ok_or (as_array d) LockShape >>= each_item unlinked_of) o (Ok []) ≡ Ok us
     → AllByRecursion (λ (u : Unlinked). IsRead u.locked) us
 array-read None us e = let none : [] ≡ us =
     ok-same [] us e in subst (AllByRecursion (λ (u : Unlinked). IsRead u.locked)) none tt
 array-read (Some d) us e = let items =
-    bind-ok (ok_or (as_array d) LockShape) unlinked_in us e in packages-read items.0 us items.2
+    bind-ok (ok_or (as_array d) LockShape) (each_item unlinked_of) us e in packages-read items.0 us items.2
 
 -- ---- the packages stand in order
 

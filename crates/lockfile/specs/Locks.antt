@@ -49,9 +49,9 @@ version_known top = option_map_or
 abbrev pub text_at : List ℕ → Members → Result (List ℕ) LockFault
 text_at key section = ok_or (option_and_then as_str (get_member key section)) LockShape
 
--- a text that has to be a package name
-abbrev pub checked_name : List ℕ → Result (List ℕ) LockFault
-checked_name text = if is_package_name text then Ok text else Err LockShape
+-- a text that has to pass a test
+abbrev pub checked : (List ℕ → Bool) → List ℕ → Result (List ℕ) LockFault
+checked test text = if test text then Ok text else Err LockShape
 
 -- a text that has to be a version
 abbrev pub checked_version : List ℕ → Result Parts LockFault
@@ -61,28 +61,25 @@ checked_version text = ok_or (result_ok (version_parts text)) LockShape
 abbrev pub is_plain_byte : ℕ → Bool
 is_plain_byte b = nat_le 32 b && (nat_le b 126 && (not (b == 34) && not (b == 92)))
 
--- a text of such bytes alone
-abbrev pub checked_plain : List ℕ → Result (List ℕ) LockFault
-checked_plain text = if list_all is_plain_byte text then Ok text else Err LockShape
-
--- `source` or `checksum`, which may be absent
+-- `source` or `checksum`, which may be absent: a text of such bytes alone
 abbrev pub plain_at : List ℕ → Members → Result (Option (List ℕ)) LockFault
 plain_at key section = option_map_or
-    (λ d. ok_or (as_str d) LockShape >>= λ text. checked_plain text >>= λ plain. Ok (Some plain))
+    (λ d. ok_or (as_str d) LockShape >>= λ text. checked (list_all is_plain_byte) text >>= λ plain. Ok (Some plain))
     (get_member key section) (Ok None)
 
--- an array of texts
-unfoldable pub texts_in : Items → Result (List (List ℕ)) LockFault
-texts_in no_items = Ok []
-texts_in (item d rest) = do
-  text ← ok_or (as_str d) LockShape
-  others ← texts_in rest
-  Ok (text ∷ others)
+-- what the items of an array say, as they stand there
+unfoldable pub each_item : {A : Type 0} → (Data → Result A LockFault) → Items → Result (List A) LockFault
+each_item read no_items = Ok []
+each_item read (item d rest) = do
+  first ← read d
+  others ← each_item read rest
+  Ok (first ∷ others)
 
--- `dependencies`, empty if absent
+-- `dependencies`, an array of texts, empty if absent
 abbrev pub dependencies_at : Members → Result (List (List ℕ)) LockFault
-dependencies_at section =
-    option_map_or (λ d. ok_or (as_array d) LockShape >>= texts_in) (get_member (codes "dependencies") section) (Ok [])
+dependencies_at section = option_map_or
+    (λ d. ok_or (as_array d) LockShape >>= each_item (λ e. ok_or (as_str e) LockShape))
+    (get_member (codes "dependencies") section) (Ok [])
 
 -- a package with the texts of its dependencies: what these mean is still to be found, and its list is empty
 pub record Unlinked : Type 0 where
@@ -90,10 +87,11 @@ pub record Unlinked : Type 0 where
   pub texts : List (List ℕ)
 
 -- one table of `package`
-unfoldable pub unlinked_of : Members → Result Unlinked LockFault
-unlinked_of section = do
+unfoldable pub unlinked_of : Data → Result Unlinked LockFault
+unlinked_of d = do
+  section ← ok_or (as_table d) LockShape
   name_text ← text_at (codes "name") section
-  name ← checked_name name_text
+  name ← checked is_package_name name_text
   version_text ← text_at (codes "version") section
   version ← checked_version version_text
   source ← plain_at (codes "source") section
@@ -105,19 +103,10 @@ unlinked_of section = do
     texts = texts;
   })
 
--- the tables of an array, as they stand there
-unfoldable pub unlinked_in : Items → Result (List Unlinked) LockFault
-unlinked_in no_items = Ok []
-unlinked_in (item d rest) = do
-  section ← ok_or (as_table d) LockShape
-  first ← unlinked_of section
-  others ← unlinked_in rest
-  Ok (first ∷ others)
-
 -- `package`, none if absent
 abbrev pub packages_at : Members → Result (List Unlinked) LockFault
-packages_at top =
-    option_map_or (λ d. ok_or (as_array d) LockShape >>= unlinked_in) (get_member (codes "package") top) (Ok [])
+packages_at top = option_map_or
+    (λ d. ok_or (as_array d) LockShape >>= each_item unlinked_of) (get_member (codes "package") top) (Ok [])
 
 -- ---- order, and what may stand once
 

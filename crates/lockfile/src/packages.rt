@@ -1,9 +1,9 @@
 //! The packages of a lock, before their dependency texts are looked up.
 
 ghost use Rattle.std.specs.Prelude.{◌≡◌};
-ghost use Rattle.toml.specs.View.{table_view, items_view};
+ghost use Rattle.toml.specs.View.{view, table_view, items_view};
 ghost use Rattle.model.specs.Outcome.{Gives};
-ghost use Rattle.lockfile.specs.Locks.{wants_memory, linked, unlinked_of, unlinked_in, packages_at};
+ghost use Rattle.lockfile.specs.Locks.{wants_memory, linked, unlinked_of, each_item, packages_at};
 ghost use Rattle.lockfile.specs.inner.Views.{package_view, unlinked_view, unlinked_views};
 
 use crate::fault::LockFault;
@@ -36,9 +36,12 @@ impl UnlinkedPackage<'_> {
 
 /// One table of `package`.
 #[tactic(auto, unfolding(crate::specs::Locks::unlinked_of))]
-fn one_package(alloc: Global, section: &Table) -> Result<UnlinkedPackage<'_>, LockFault>
-    ensures { Gives wants_memory unlinked_view result (unlinked_of (table_view section.now)) }
+fn one_package(alloc: Global, value: &Value) -> Result<UnlinkedPackage<'_>, LockFault>
+    ensures { Gives wants_memory unlinked_view result (unlinked_of (view value.now)) }
 {
+    let Some(section) = value.as_table() else {
+        return Err(LockFault::LockShape);
+    };
     let name = package_name(alloc, text(section, "name")?)?;
     let version = version(alloc, text(section, "version")?)?;
     let source = plain_text(alloc, section, "source")?;
@@ -55,16 +58,14 @@ fn one_package(alloc: Global, section: &Table) -> Result<UnlinkedPackage<'_>, Lo
     Ok(UnlinkedPackage { locked, texts })
 }
 
-#[tactic(auto, unfolding(crate::specs::Locks::unlinked_in))]
+#[tactic(auto, unfolding(crate::specs::Locks::each_item))]
 fn packages_in(alloc: Global, values: &Vec<Value>) -> Result<Vec<UnlinkedPackage<'_>>, LockFault>
-    ensures { Gives wants_memory (λ v. unlinked_views v.items) result (unlinked_in (items_view values.now.items)) }
+    ensures { Gives wants_memory
+        (λ v. unlinked_views v.items) result (each_item unlinked_of (items_view values.now.items)) }
 {
     let mut found = Vec::new(alloc);
     'items: for value in values.iter() {
-        let Some(section) = value.as_table() else {
-            return Err(LockFault::LockShape);
-        };
-        found.push(one_package(alloc, section)?)?;
+        found.push(one_package(alloc, value)?)?;
     }
     Ok(found)
 }

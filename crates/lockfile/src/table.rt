@@ -6,10 +6,12 @@ ghost use Rattle.features.specs.Names.{is_package_name};
 ghost use Rattle.semver.specs.Grammar.{IsValid};
 ghost use Rattle.semver.specs.Identifiers.{parts_of};
 ghost use Rattle.semver.specs.Parse.{memory_error};
+ghost use Rattle.std.specs.Option.{ok_or};
+ghost use Rattle.toml.specs.Data.{as_str};
 ghost use Rattle.toml.specs.View.{table_view, items_view};
 ghost use Rattle.model.specs.Outcome.{Gives, guard};
 ghost use Rattle.lockfile.specs.Locks.{wants_memory, is_known_version, version_known, text_at};
-ghost use Rattle.lockfile.specs.Locks.{checked_name, checked_version, is_plain_byte, checked_plain, plain_at, texts_in};
+ghost use Rattle.lockfile.specs.Locks.{checked, checked_version, is_plain_byte, plain_at, each_item};
 ghost use Rattle.lockfile.specs.Locks.{dependencies_at};
 ghost use Rattle.features.specs.Views.{text_views};
 
@@ -61,7 +63,7 @@ pub(crate) fn text<'a>(section: &'a Table, key: &str) -> Result<&'a str, LockFau
 
 /// The package name that a text has to be.
 pub(crate) fn package_name(alloc: Global, text: &str) -> Result<PackageName, LockFault>
-    ensures value { Gives wants_memory (λ n. n) result (checked_name text.now) }
+    ensures value { Gives wants_memory (λ n. n) result (checked is_package_name text.now) }
     ensures named { IfOk result (λ n. is_package_name n ≡ true) }
 {
     match PackageName::parse(alloc, text) {
@@ -112,7 +114,7 @@ pub(crate) fn plain_text(
 }
 
 fn plain(alloc: Global, text: &str) -> Result<String, LockFault>
-    ensures { Gives wants_memory string_bytes result (checked_plain text.now) }
+    ensures { Gives wants_memory string_bytes result (checked (list_all is_plain_byte) text.now) }
 {
     if is_plain(text.as_bytes()) {
         Ok(String::from_str(alloc, text)?)
@@ -146,9 +148,10 @@ pub(crate) fn dependencies(alloc: Global, section: &Table) -> Result<Vec<&str>, 
     texts(alloc, values)
 }
 
-#[tactic(auto, unfolding(crate::specs::Locks::texts_in))]
+#[tactic(auto, unfolding(crate::specs::Locks::each_item))]
 fn texts(alloc: Global, values: &Vec<Value>) -> Result<Vec<&str>, LockFault>
-    ensures { Gives wants_memory (λ v. text_views v.items) result (texts_in (items_view values.now.items)) }
+    ensures { Gives wants_memory (λ v. text_views v.items) result
+        (each_item (λ d. ok_or (as_str d) LockFault.LockShape) (items_view values.now.items)) }
 {
     let mut found = Vec::new(alloc);
     'items: for value in values.iter() {
