@@ -23,11 +23,11 @@ use Rattle.numbering.specs.inner.Assignments.{state_at}
 use Rattle.numbering.specs.inner.CausesAt.{causes_at, with_causes}
 use Rattle.numbering.specs.Numberings.{IsNumbering, IsWhole, Numbering}
 use Rattle.numbering.specs.Pairs.{AreCausesAt, AreGiven, Given, IsGivenAt, Pair, first_pair}
+use Rattle.numbering.proofs.ByKind.{first_there}
 use Rattle.numbering.proofs.CausesLaws.{at_exact}
 use Rattle.numbering.proofs.Distinct.{states_once}
 use Rattle.encoding.specs.Encodings.{IsGivenIf, beside, pair_at}
 use Rattle.encoding.specs.Everywhere.{ComesOnce, IsGivenAll, IsGivenFor, all_pairs, pairs_of}
-use Rattle.encoding.proofs.Firsts.{first_there}
 
 -- ---- lists
 

@@ -26,7 +26,7 @@ use Rattle.numbering.specs.inner.Assignments.{state_at}
 use Rattle.numbering.specs.Numberings.{Numbering, Says, members_at}
 use Rattle.numbering.specs.Pairs.{AreGiven, Given, IsGivenAt, Pair, first_pair, pairs_of}
 use Rattle.numbering.proofs.Needing.{still_at}
-use Rattle.numbering.proofs.Overtaken.{first_named}
+use Rattle.numbering.proofs.ByKind.{first_named}
 use Rattle.model.proofs.Lists.{in_cons, in_none, in_first, in_rest}
 use Rattle.guiding.specs.inner.Searching.{AreMore, HasSpaces, IsOfNew, IsSeen}
 use Rattle.guiding.specs.inner.Turning.{IsAdding}

@@ -9,7 +9,6 @@ pub mod Alone
 pub mod Asked
 pub mod Adding
 pub mod Following
-pub mod AbsentPairs
 pub mod Settling
 pub mod Starts
 pub mod Ended

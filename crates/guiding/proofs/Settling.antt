@@ -27,6 +27,7 @@ use Rattle.numbering.specs.inner.Finals.{IsAtRest, IsFinal}
 use Rattle.numbering.specs.Numberings.{IsNumbering, Numbering, Says, number_in}
 use Rattle.numbering.specs.Pairs.{Pair, pairs_of}
 use Rattle.numbering.proofs.Absent.{instance_one_zero}
+use Rattle.numbering.proofs.ByKind.{only_root}
 use Rattle.numbering.proofs.Final.{breaks_not}
 use Rattle.numbering.proofs.Places.{number_at}
 use Rattle.numbering.proofs.Settled.{is_unbroken}
@@ -34,7 +35,6 @@ use Rattle.guiding.specs.inner.Searching.{AllAsked, HasSpaces}
 use Rattle.guiding.specs.inner.Following as following
 use Rattle.guiding.specs.inner.Guides.{AreStored, IsAskedFor, IsDone, IsOfInstance, IsPut, asked_of, first_in, on_trail}
 use Rattle.guiding.specs.inner.Remaining.{spaces_of}
-use Rattle.guiding.proofs.AbsentPairs.{only_root}
 use Rattle.guiding.proofs.Alone.{one_member}
 use Rattle.guiding.proofs.Marks.{lengths_at}
 use Rattle.guiding.proofs.OnTrail.{on_trail_at}

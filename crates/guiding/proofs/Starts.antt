@@ -20,7 +20,7 @@ use Rattle.numbering.specs.inner.KnownProblem.{problem}
 use Rattle.numbering.specs.Numberings.{Numbering}
 use Rattle.numbering.specs.Pairs.{Given, IsGivenAt, first_pair}
 use Rattle.numbering.specs.declared.known_problem.KnownProblem.{KnownProblem}
-use Rattle.numbering.proofs.Overtaken.{first_named}
+use Rattle.numbering.proofs.ByKind.{first_named}
 use Rattle.guiding.specs.inner.Searching.{HasSpaces, IsSeen}
 use Rattle.guiding.specs.inner.Following as following
 use Rattle.guiding.specs.inner.Following.{IsLeft}

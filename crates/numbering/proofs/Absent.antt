@@ -10,48 +10,16 @@ use Rattle.incompatibilities.specs.Incompatibilities as numbered
 use Rattle.incompatibilities.specs.Incompatibilities.{unless_full}
 use Rattle.model.specs.Summary.{Dependency}
 use Rattle.model.specs.Content.{Problem}
-use Rattle.model.specs.Vertices.{Owner, the_root, version_of, Vertex, root, pkg, dep, feat, ask, State, absent}
+use Rattle.model.specs.Vertices.{Vertex, root, pkg, dep, feat, ask, State, absent}
 use Rattle.model.specs.Vertices.{has_state, same_vertex, owner_brings, dep_space, space}
-use Rattle.model.specs.Axioms.{Term, owner_holds, Kind, IsInstance}
+use Rattle.model.specs.Axioms.{Term, Kind, IsInstance}
 use Rattle.model.specs.Derivation as model
 use Rattle.model.proofs.Same.{vertex-same}
-use Rattle.model.specs.Causes.{Cause, of_root, of_need, of_target, of_feature, of_list, of_ask, of_entry}
-use Rattle.model.specs.Causes.{of_enabling, of_asking, of_newest, of_weak, terms_with, terms_of_cause}
-use Rattle.model.specs.Causes.{dependency_at}
-use Rattle.model.proofs.CauseLaws.{instance_cause}
 use Rattle.numbering.specs.Numberings.{Numbering, members_at, Says}
 use Rattle.numbering.specs.inner.Absences.{has_absent, OneAbsent, HasZero, OneZero}
+use Rattle.numbering.proofs.ByKind.{instance_one_absent}
 use Rattle.numbering.proofs.Places.{has_map}
 use Rattle.numbering.proofs.Saying.{one_place}
-
-owner_not : (o : Owner) → has_absent (owner_holds o) ≡ false
-owner_not the_root = refl
-owner_not (version_of name v) = refl
-
-with_one : (terms : Dependency → List Term) (o : Option Dependency) → ((d : Dependency) → OneAbsent (terms d))
-    → OneAbsent (terms_with terms o)
-with_one terms None h = tt
-with_one terms (Some d) h = h d
-
-module _ (q : Problem) where
-  one_absent : (c : Cause) → OneAbsent (terms_of_cause q c)
-  one_absent of_root = inr tt
-  one_absent (of_need o i) = inl (owner_not o, inr tt)
-  one_absent (of_target o i k) = with_one _ (dependency_at q o i) (λ d. inl (refl, inr tt))
-  one_absent (of_feature name k f) = inl (refl, inr tt)
-  one_absent (of_list o i k g) = with_one _ (dependency_at q o i) (λ d. inl (refl, inr tt))
-  one_absent (of_ask name v i g k) =
-      with_one _ (dependency_at q (version_of name v) i) (λ d. inl (refl, inl (refl, inr tt)))
-  one_absent (of_entry name v f g) = inl (refl, inl (refl, inr tt))
-  one_absent (of_enabling name v f e i) = inl (refl, inl (refl, inr tt))
-  one_absent (of_asking name v f g i) = inl (refl, inl (refl, inr tt))
-  one_absent (of_newest o i j k m) = with_one _ (dependency_at q o i) (λ d. inl (refl, inl (refl, inr tt)))
-  one_absent (of_weak name v f g i k) =
-      with_one _ (dependency_at q (version_of name v) i) (λ d. inl (refl, inl (refl, inl (refl, inr tt))))
-
-  instance_one_absent : (k : Kind) (ts : List Term) → IsInstance q k ts → OneAbsent ts
-  instance_one_absent k ts instance = let c =
-      instance_cause q k ts instance in subst OneAbsent c.terms (one_absent c.cause)
 
 -- ---- two vertices with absent are one
 

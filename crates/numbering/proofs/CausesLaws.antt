@@ -100,7 +100,7 @@ module _ (q : Problem) where
       (subst (λ x. Contains (x ∷ []) g) (text-same g (r.0).1 p.1) (in_first g [])))
   root_asked_there (version_of name v) d g t = absurd (true≢false (sym t))
 
-  pub asked_there : (o : Owner) (d : Dependency) (g : List ℕ) → lists_feature q o d g ≡ true
+  asked_there : (o : Owner) (d : Dependency) (g : List ℕ) → lists_feature q o d g ≡ true
       → Contains (asked_of_target d ++ root_asked q o d) g
   asked_there o d g t = by (list_any (same_text g) (asked_of_target d)) refl t
     where

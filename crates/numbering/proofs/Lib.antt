@@ -5,7 +5,7 @@ pub mod Absent
 pub mod Final
 pub mod ClassOrder
 pub mod Distinct
-pub mod Firsts
+pub mod ByKind
 pub mod Settled
 pub mod Sound
 pub mod Same

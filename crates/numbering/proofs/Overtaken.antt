@@ -1,44 +1,29 @@
 -- The causes that are listed for a pair that is asked for after others.
-use Rattle.std.proofs.Common.{◌≡◌, ◌⊎◌, ℕ, suc, zero, List, [], ◌∷◌, ◌++◌, map, true, not, ◌&&◌, Contains}
+use Rattle.std.proofs.Common.{◌≡◌, ◌⊎◌, ℕ, suc, zero, List, [], ◌∷◌, true, not, ◌&&◌, Contains}
 use Rattle.std.proofs.Common.{Option, Some, None, nat_eq, refl, sym, ap, ◌∙◌, subst, inl, inr, true≢false, arith}
 use Rattle.std.specs.List.{flat_map}
 use Rattle.std.proofs.lemmas.Bool.{and_from, eq-eqb, ne_eqb, not-true}
 use Rattle.std.proofs.lemmas.List.Elements.{Contains-append_cases, Contains-append_left, Contains-append_right}
-use Rattle.model.specs.Summary.{Dependency, asked_of_target, same_text}
+use Rattle.model.specs.Summary.{Dependency, same_text}
 use Rattle.model.specs.Content.{Problem}
 use Rattle.model.specs.Selection.{Class}
-use Rattle.model.specs.Vertices.{Owner, the_root, version_of, Vertex, root, pkg, dep, feat, ask, State, absent, present}
+use Rattle.model.specs.Vertices.{Owner, owner_brings, Vertex, root, pkg, dep, feat, ask, State, absent, present}
 use Rattle.model.specs.Vertices.{version, in_class, dep_classes, space}
 use Rattle.model.specs.Axioms.{IsVertex, is_lower}
 use Rattle.model.proofs.Flat.{in_flat, to_flat}
-use Rattle.model.proofs.Lists.{in_none, in_cons, in_first, in_rest, to_map}
+use Rattle.model.proofs.Lists.{in_none, in_cons, in_first, in_rest}
 use Rattle.model.proofs.Same.{both, text-refl, text-same}
-use Rattle.model.specs.Causes.{Cause, of_root, of_need, of_target, of_feature, of_list, of_ask, of_entry}
-use Rattle.model.specs.Causes.{of_enabling, of_asking, of_newest, of_weak, dependency_at, has_class, lists_feature}
-use Rattle.model.specs.Causes.{is_cause}
-use Rattle.model.proofs.Named.{class-is, passes-is}
+use Rattle.model.specs.Causes.{Cause, of_newest, dependency_at, has_class, is_cause}
+use Rattle.model.proofs.Named.{class-is}
 use Rattle.numbering.specs.inner.AskedFor.{AreBeside, HasOther, IsNoted, asked_causes, asked_leads, both_of, listed_at}
 use Rattle.numbering.specs.inner.AskedFor.{newest_of}
-use Rattle.numbering.specs.inner.CausesAt.{alone_causes, root_asked}
+use Rattle.numbering.specs.inner.CausesAt.{alone_causes, causes_at, each_from, lead_causes, newest_if, overtaken_if}
+use Rattle.numbering.specs.inner.OnPackage.{is_other}
 use Rattle.numbering.specs.Pairs.{Pair, first_pair, pairs_of}
 use Rattle.numbering.specs.declared.noted.Noted.{Noted}
-use Rattle.numbering.proofs.CausesLaws.{alone_there, asked_there, is_listed, is_there, newest_is}
-use Rattle.numbering.proofs.Each.{from_if, only_one, to_if}
-
--- ---- a pair is among those of a cause
-
-pub first_named : (c : Cause) → Contains (pairs_of c) (first_pair c)
-first_named of_root = in_first _ []
-first_named (of_need o i) = in_first _ []
-first_named (of_target o i k) = in_first _ []
-first_named (of_feature name k f) = in_first _ []
-first_named (of_list o i k g) = in_first _ []
-first_named (of_ask name v i g k) = in_first _ []
-first_named (of_entry name v f g) = in_first _ []
-first_named (of_enabling name v f e i) = in_first _ []
-first_named (of_asking name v f g i) = in_first _ []
-first_named (of_newest o i j k m) = in_first _ ((dep o j, in_class m) ∷ [])
-first_named (of_weak name v f g i k) = in_first _ []
+use Rattle.numbering.proofs.CausesLaws.{alone_there, is_listed, is_there, newest_is}
+use Rattle.numbering.proofs.Each.{from_if, in_all, only_one, to_if}
+use Rattle.numbering.proofs.ByKind.{by_pairs, first_named}
 
 module _ (q : Problem) (ps : List (ℕ × Class)) where
   -- ---- no other is listed
@@ -100,35 +85,41 @@ module _ (q : Problem) (ps : List (ℕ × Class)) where
   lead_in o i k d c e h = subst (λ x. Contains (asked_leads q ps o i k x) c) (sym e) h
 
   -- one that names one pair
-  first_in : (c : Cause) → is_cause q c ≡ true → pairs_of c ≡ first_pair c ∷ []
-      → Contains (asked_causes q ps (first_pair c).0 (first_pair c).1) c
-  first_in of_root t one = is_listed q of_root t
-  first_in (of_need the_root i) t one = is_listed q (of_need the_root i) t
-  first_in (of_need (version_of name v) i) t one = is_listed q (of_need (version_of name v) i) t
-  first_in (of_target o i k) t one = let r = passes-is (has_class q k) (dependency_at q o i) t in
-      lead_in o i k r.0 (of_target o i k) r.1 (in_first (of_target o i k) _)
-  first_in (of_feature name k f) t one = is_listed q (of_feature name k f) t
-  first_in (of_list o i k g) t one =
-      let r = passes-is (λ d. has_class q k d && lists_feature q o d g) (dependency_at q o i) t in
-      let a = both (has_class q k r.0) (lists_feature q o r.0 g) r.2 in
-      lead_in o i k r.0 (of_list o i k g) r.1 (in_rest (of_target o i k) (of_list o i k g) _
-      (Contains-append_left (map (of_list o i k) (asked_of_target r.0 ++ root_asked q o r.0)) _ (of_list o i k g)
-      (to_map (of_list o i k) (asked_of_target r.0 ++ root_asked q o r.0) g (asked_there q o r.0 g a.1))))
-  first_in (of_ask name v i g k) t one = is_listed q (of_ask name v i g k) t
-  first_in (of_entry name v f g) t one = is_listed q (of_entry name v f g) t
-  first_in (of_enabling name v f e i) t one = is_listed q (of_enabling name v f e i) t
-  first_in (of_asking name v f g i) t one = is_listed q (of_asking name v f g i) t
-  first_in (of_newest o i j k m) t one = absurd (two _ _ _ one)
+  alone_in : (v : Vertex) (s : State) (c : Cause) → pairs_of c ≡ first_pair c ∷ [] → Contains (causes_at q v s) c
+      → Contains (asked_causes q ps v s) c
+  alone_in root s c one h = h
+  alone_in (pkg name k) s c one h = h
+  alone_in (dep o i) absent c one h = h
+  alone_in (dep o i) present c one h = h
+  alone_in (dep o i) (version w) c one h = h
+  alone_in (dep o i) (in_class k) c one h = by (dependency_at q o i) h
     where
-      two : (a b c : Pair) → a ∷ b ∷ [] ≡ c ∷ [] → ⊥
-      two a b c e = let n : suc (suc zero) ≡ suc zero = ap Rattle.std.proofs.Common.length e in omega (arith, n)
-  first_in (of_weak name v f g i k) t one = is_listed q (of_weak name v f g i k) t
+      two : (a b d : Pair) → a ∷ b ∷ [] ≡ d ∷ [] → ⊥
+      two a b d e = let n : suc (suc zero) ≡ suc zero = ap Rattle.std.proofs.Common.length e in omega (arith, n)
+
+      by : (x : Option Dependency) → Contains (lead_causes q o i k x) c → Contains (asked_leads q ps o i k x) c
+      by None h = h
+      by (Some d) h = elim (Contains-append_cases (alone_causes q o i k (Some d))
+          (each_from (newest_if q o i k d) 0 (owner_brings q o).dependencies) c h) [
+            | inl a ↦ Contains-append_left (alone_causes q o i k (Some d)) (flat_map (both_of q o i k) ps) c a
+            | inr b ↦
+                let r = in_all (newest_if q o i k d) (owner_brings q o).dependencies c b in
+                let u = from_if (is_other i d.real_name r.0 r.1) c
+                (flat_map (overtaken_if q o i k d r.0) (dep_classes q r.1)) r.3 in
+                let x = in_flat (overtaken_if q o i k d r.0) (dep_classes q r.1) c u.1 in
+                let w = from_if (is_lower k x.0 && has_class q x.0 d) c (of_newest o i r.0 k x.0 ∷ []) x.2 in
+                absurd (two _ _ _ (subst (λ y. pairs_of y ≡ first_pair y ∷ [])
+                (only_one (of_newest o i r.0 k x.0) c w.1) one))
+          ]
+  alone_in (feat name k f) s c one h = h
+  alone_in (ask name v i g) s c one h = h
 
   one_in : (c : Cause) (v : Vertex) (s : State) → is_cause q c ≡ true → pairs_of c ≡ first_pair c ∷ []
       → Contains (pairs_of c) (v, s) → Contains (asked_causes q ps v s) c
   one_in c v s t one here =
       let e : (v, s) ≡ first_pair c = only_one (first_pair c) (v, s) (subst (λ l. Contains l (v, s)) one here) in
-      subst (λ (p : Pair). Contains (asked_causes q ps p.0 p.1) c) (sym e) (first_in c t one)
+      subst (λ (p : Pair). Contains (asked_causes q ps p.0 p.1) c) (sym e)
+      (alone_in (first_pair c).0 (first_pair c).1 c one (is_listed q c t))
 
   -- ---- one that names two
 
@@ -216,21 +207,6 @@ module _ (q : Problem) (ps : List (ℕ × Class)) where
 
   -- ---- so each that names the pair, and none beside it but those that were noted
 
-  -- a cause names one pair, or two dependencies
-  by_pairs : (P : Cause → Type 0) → ((c : Cause) → pairs_of c ≡ first_pair c ∷ [] → P c)
-      → ((o : Owner) (i j : ℕ) (k m : Class) → P (of_newest o i j k m)) → (c : Cause) → P c
-  by_pairs P one two of_root = one of_root refl
-  by_pairs P one two (of_need o i) = one (of_need o i) refl
-  by_pairs P one two (of_target o i k) = one (of_target o i k) refl
-  by_pairs P one two (of_feature name k f) = one (of_feature name k f) refl
-  by_pairs P one two (of_list o i k g) = one (of_list o i k g) refl
-  by_pairs P one two (of_ask name w i g k) = one (of_ask name w i g k) refl
-  by_pairs P one two (of_entry name w f g) = one (of_entry name w f g) refl
-  by_pairs P one two (of_enabling name w f e i) = one (of_enabling name w f e i) refl
-  by_pairs P one two (of_asking name w f g i) = one (of_asking name w f g i) refl
-  by_pairs P one two (of_newest o i j k m) = two o i j k m
-  by_pairs P one two (of_weak name w f g i k) = one (of_weak name w f g i k) refl
-
   -- a cause of the pair that names others only of a kind is listed
   abbrev IsListed : (Pair → Type 0) → Vertex → State → Cause → Type 0
   IsListed Is v s c = is_cause q c ≡ true → Contains (pairs_of c) (v, s)
@@ -238,12 +214,12 @@ module _ (q : Problem) (ps : List (ℕ × Class)) where
 
   pub next_listed : (ns : Noted) (v : Vertex) (s : State) (c : Cause) → AreBeside q ns (v, s) ps
       → IsListed (IsNoted q ns) v s c
-  next_listed ns v s c are = by_pairs (IsListed (IsNoted q ns) v s) (λ c one t here all. one_in c v s t one here)
+  next_listed ns v s c are = by_pairs (IsListed (IsNoted q ns) v s) (λ c one at t here all. one_in c v s t one here)
       (λ o i j k m. newest_in ns o i j k m v s are) c
 
   -- two dependencies aren't one pair
   pub first_listed : (v : Vertex) (s : State) (c : Cause) → IsListed (λ r. ⊥) v s c
-  first_listed v s = by_pairs (IsListed (λ r. ⊥) v s) (λ c one t here all. one_in c v s t one here)
+  first_listed v s = by_pairs (IsListed (λ r. ⊥) v s) (λ c one at t here all. one_in c v s t one here)
       (λ o i j k m t here all.
       let first : Pair = (dep o i, in_class k) in
       let second : Pair = (dep o j, in_class m) in

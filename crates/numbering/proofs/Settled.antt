@@ -14,14 +14,15 @@ use Rattle.model.specs.Axioms.{Term, Kind, IsBroken, IsInstance}
 use Rattle.model.specs.Derivation as model
 use Rattle.model.specs.inner.Search.{IsUnbroken}
 use Rattle.model.proofs.Same.{vertex-same}
-use Rattle.model.proofs.Spaces.{state_in, absent_in_space}
+use Rattle.model.proofs.Spaces.{state_in, state_from, absent_in_space}
 use Rattle.model.proofs.Places.{some_at, got_in}
 use Rattle.model.specs.Causes.{terms_of_cause}
 use Rattle.model.proofs.CauseLaws.{instance_cause}
 use Rattle.numbering.specs.Numberings.{Numbering, IsNumbering, number_in, members_at, Says}
 use Rattle.numbering.specs.inner.Assignments.{state_if, state_of, IsSettled}
 use Rattle.numbering.proofs.Places.{has_map, number_at, number_of}
-use Rattle.numbering.proofs.Firsts.{pairs_hold}
+use Rattle.numbering.proofs.Each.{only_one}
+use Rattle.numbering.proofs.ByKind.{pair_states}
 
 -- what breaks a list of terms has a state of each of them
 broken_at : (state : Vertex → State) (ts : List Term) → IsBroken (λ v s. state v ≡ s) ts
@@ -83,7 +84,9 @@ module _ (q : Problem) (vs : Numbering) (es : List EntryView) (x : Assignment) (
       let c = instance_cause q k ts instance in
       let b : IsBroken (λ v s. state_of q vs x v ≡ s) (terms_of_cause q c.cause) =
       subst (λ us. IsBroken (λ v s. state_of q vs x v ≡ s) us) (sym c.terms) broken in
-      let r = settled.added c.cause c.there (pairs_hold q (state_of q vs x) c.cause c.there b) in
+      let r = settled.added c.cause c.there (λ p there. only_one p.1 (state_of q vs x p.0)
+      (state_from (p.1 ∷ []) (state_of q vs x p.0) (broken_at (state_of q vs x) (terms_of_cause q c.cause) b p.0
+      (p.1 ∷ []) (pair_states q c.cause c.there p there)))) in
       settled.none_broken r.0 r.1 (breaks (entry es r.0).terms (terms_of_cause q c.cause) r.2 b)
 
   pub is_unbroken : IsUnbroken q (state_of q vs x)

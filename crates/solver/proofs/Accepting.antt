@@ -21,11 +21,11 @@ use Rattle.model.specs.Derivation as model
 use Rattle.model.proofs.Same.{vertex-refl}
 use Rattle.model.proofs.Accepted.{instance_apart}
 use Rattle.numbering.specs.Numberings.{Numbering, IsNumbering}
+use Rattle.numbering.proofs.ByKind.{instance_there}
 use Rattle.solver.specs.inner.Decoding.{terms_of, IsOver}
 use Rattle.solver.specs.inner.Steps.{AreGiven, IsGiven, IsBy, IsStepOf, AreStepsOf}
 use Rattle.vertices.specs.Texts.{kind_at}
 use Rattle.solver.proofs.Growth.{has_vertex}
-use Rattle.solver.proofs.Within.{instance_within}
 use Rattle.solver.proofs.Unique.{one_reading, says_over}
 use Rattle.solver.proofs.Combining.{over_combined, decoded_combination}
 use Rattle.solver.proofs.Likeness.{like_trans, combined_alike}
@@ -132,7 +132,7 @@ module _ (q : Problem) (vs : Numbering) where
                 λ v. like_trans (states_at ts v) (states_at (terms_of q vs (flat fs k).terms) v)
                     (states_at (without_full q r.0) v) (same v)
                     (one_reading q vs known ok (flat fs k).terms r.0 r.2 (instance_apart q (kind_at n) r.0 r.1)
-                    (instance_within q (kind_at n) r.0 r.1) v),
+                    (instance_there q (kind_at n) r.0 r.1).0 v),
               )
           by within (Axiom n) fits (combine a b v ts) is same = absurd is
           by within (Combined i j n) fits (given kind ts) is same = absurd is

@@ -7,7 +7,6 @@ pub mod Marks
 pub mod FlatRows
 pub mod Sets
 pub mod Decoded
-pub mod Within
 pub mod Unique
 pub mod Combining
 pub mod Likeness

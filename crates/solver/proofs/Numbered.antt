@@ -1,26 +1,14 @@
--- The kinds by their numbers, and what a search says of its store.
-use Rattle.std.proofs.Common.{◌≡◌, ◌<◌, ℕ, List, length, refl, sym, subst, ◌∙◌}
+-- What a search says of its store, where a kind stands as its number.
+use Rattle.std.proofs.Common.{◌≡◌, ◌<◌, ℕ, List, length, sym, subst, ◌∙◌}
 use Rattle.incompatibilities.specs.Stores.{EntryView, IsAxiom, entry}
 use Rattle.incompatibilities.specs.declared.origin.Origin.TheVariants.{Axiom}
 use Rattle.model.specs.Content.{Problem}
-use Rattle.model.specs.Axioms.{IsInstance, Kind, Root, Needed, Target, HasFeature, WantsFeature, FeatureOnFeature}
-use Rattle.model.specs.Axioms.{FeatureOnDependency, FeatureAsks, NewestListed, WeakFeature}
+use Rattle.model.specs.Axioms.{IsInstance}
 use Rattle.numbering.specs.Numberings.{Numbering}
+use Rattle.numbering.proofs.ByKind.{kind_back}
 use Rattle.solver.specs.inner.Steps.{AreGiven, IsGiven}
-use Rattle.vertices.specs.Texts.{kind_at, kind_number}
+use Rattle.vertices.specs.Texts.{kind_number}
 use Rattle.guiding.specs.inner.Guides.{IsOfInstance}
-
-pub kind_back : (k : Kind) → kind_at (kind_number k) ≡ k
-kind_back Root = refl
-kind_back Needed = refl
-kind_back Target = refl
-kind_back HasFeature = refl
-kind_back WantsFeature = refl
-kind_back FeatureOnFeature = refl
-kind_back FeatureOnDependency = refl
-kind_back FeatureAsks = refl
-kind_back NewestListed = refl
-kind_back WeakFeature = refl
 
 pub axioms_given : (q : Problem) (vs : Numbering) (es : List EntryView) → ((id : ℕ) → id < length es
     → IsAxiom (entry es id).origin → IsOfInstance q vs (entry es id)) → AreGiven q vs es

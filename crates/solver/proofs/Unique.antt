@@ -19,10 +19,11 @@ use Rattle.model.specs.Derivation as model
 use Rattle.model.proofs.Same.{vertex-same}
 use Rattle.model.proofs.Places.{place_of}
 use Rattle.numbering.specs.Numberings.{Numbering, IsNumbering, number_in, members_at, Says}
+use Rattle.numbering.proofs.ByKind.{AreWithin}
 use Rattle.numbering.proofs.Places.{number_at, number_of}
 use Rattle.numbering.proofs.Distinct.{states_once}
 use Rattle.numbering.proofs.Sound.{spoken}
-use Rattle.solver.specs.inner.Decoding.{states_in, terms_of, size_of, sizes, AreWithin, IsOver}
+use Rattle.solver.specs.inner.Decoding.{states_in, terms_of, size_of, sizes, IsOver}
 use Rattle.solver.proofs.Sets.{tested, full_tests}
 use Rattle.solver.proofs.Decoded.{said, unsaid}
 
