@@ -76,7 +76,6 @@ pub use instances::instance;
 pub use known_problem::KnownProblem;
 pub use noted::Noted;
 pub use pair_axioms::{axioms_at, first_axioms_at, next_axioms_at};
-pub use pair_causes::causes_at;
 pub use possible_classes::{class_number, classes_of};
 pub use spaces::{space_at, space_of, spaces_are_small};
 pub use states::{state_at, states_of};

@@ -27,7 +27,7 @@ use std::alloc::{AllocError, Global};
 use vertices::{OwnerRef, StateRef, VertexRef};
 
 /// The causes whose instances are added once the vertex has the state, each once.
-pub fn causes_at<'a>(
+pub(crate) fn causes_at<'a>(
     alloc: Global,
     known: &KnownProblem<'a>,
     vertex: VertexRef<'a>,
