@@ -10,7 +10,7 @@ use Rattle.incompatibilities.specs.Incompatibilities as numbered
 use Rattle.incompatibilities.specs.Incompatibilities.{unless_full}
 use Rattle.model.specs.Summary.{Dependency}
 use Rattle.model.specs.Content.{Problem}
-use Rattle.model.specs.Vertices.{Vertex, root, pkg, dep, feat, ask, State, absent}
+use Rattle.model.specs.Vertices.{Vertex, dep, State, absent}
 use Rattle.model.specs.Vertices.{has_state, same_vertex, owner_brings, dep_space, space}
 use Rattle.model.specs.Axioms.{Term, Kind, IsInstance}
 use Rattle.model.specs.Derivation as model
@@ -58,15 +58,12 @@ one_vertex (t ∷ ts) h v w ss rs e f a b =
     by (inr x) rest false false s r e f = absurd (clash ss a (none_absent ts x v ss e))
 
 first_state : (q : Problem) (v : Vertex) → slice_get (space q v) 0 ≡ Some absent
-first_state q root = refl
-first_state q (pkg name k) = refl
 first_state q (dep o i) = by (slice_get (owner_brings q o).dependencies i)
   where
     by : (d : Option Dependency) → slice_get (dep_space q d) 0 ≡ Some absent
     by None = refl
     by (Some d) = refl
-first_state q (feat name k f) = refl
-first_state q (ask name v i g) = refl
+first_state q v = refl
 
 module _ (q : Problem) (vs : Numbering) (once : AllPairs (λ v w. v ≢ w) vs) (made : List TermView) (ts : List Term)
     (says : Says q vs made ts) where

@@ -9,14 +9,12 @@ use Rattle.model.specs.Selection.{Class, class_of}
 use Rattle.model.specs.Vertices.{Owner, the_root, version_of, Vertex, root, pkg, dep, feat, ask, State, absent, present}
 use Rattle.model.specs.Vertices.{version, in_class, has_state, dep_classes, dep_space, in_that_class, class_candidates}
 use Rattle.model.specs.Vertices.{space}
-use Rattle.model.specs.Axioms.{Term, at, Kind, Root, Needed, Target, HasFeature, WantsFeature, FeatureOnFeature}
-use Rattle.model.specs.Axioms.{FeatureOnDependency, FeatureAsks, NewestListed, WeakFeature, IsOwner, IsVertex, HasDep}
-use Rattle.model.specs.Axioms.{HasClass, owner_holds, absent_or, versions_that, IsInstance}
+use Rattle.model.specs.Axioms.{Term, at, Kind, Root, IsOwner, IsVertex, HasDep, HasClass, owner_holds, absent_or}
+use Rattle.model.specs.Axioms.{versions_that, IsInstance}
 use Rattle.model.specs.Axioms.IsInstance.{root_is, needed, has_target, has_its_feature, wants_by_list, wants_by_entry}
 use Rattle.model.specs.Axioms.IsInstance.{feature_on, dependency_on, feature_asks, newest_listed, weakly}
-use Rattle.model.specs.Causes.{Cause, of_root, of_need, of_target, of_feature, of_list, of_ask, of_entry}
-use Rattle.model.specs.Causes.{of_enabling, of_asking, of_newest, of_weak, kind_of, dependency_at, is_cause}
-use Rattle.model.specs.Causes.{feature_holds, terms_with, terms_of_cause}
+use Rattle.model.specs.Causes.{Cause, of_root, of_need, of_target, of_list, of_ask, of_newest, of_weak, kind_of}
+use Rattle.model.specs.Causes.{dependency_at, is_cause, feature_holds, terms_with, terms_of_cause}
 use Rattle.model.specs.Derivation.{states_at}
 use Rattle.model.proofs.Accepted.{instance_apart}
 use Rattle.model.proofs.CauseLaws.{cause_instance}
@@ -31,46 +29,30 @@ use Rattle.numbering.proofs.Each.{only_one}
 
 -- ---- the pairs of a cause
 
-owner_present : (o : Owner) → (owner_pair o).1 ≡ absent → ⊥
-owner_present the_root e = let x : present ≡ absent = e in cc
-owner_present (version_of name v) e = let x : version v ≡ absent = e in cc
+-- the first is one of them
+pub first_named : (c : Cause) → Contains (pairs_of c) (first_pair c)
+first_named (of_newest o i j k m) = in_first _ ((dep o j, in_class m) ∷ [])
+first_named c = in_first _ []
 
--- a cause names one pair, only the root's with absent, or two dependencies in classes
-pub by_pairs : (P : Cause → Type 0)
-    → ((c : Cause) → pairs_of c ≡ first_pair c ∷ [] → ((first_pair c).1 ≡ absent → c ≡ of_root) → P c)
-    → ((o : Owner) (i j : ℕ) (k m : Class) → P (of_newest o i j k m)) → (c : Cause) → P c
-by_pairs P one two of_root = one of_root refl (λ e. refl)
-by_pairs P one two (of_need o i) = one (of_need o i) refl (λ e. absurd (owner_present o e))
-by_pairs P one two (of_target o i k) = one (of_target o i k) refl (λ e. cc)
-by_pairs P one two (of_feature name k f) = one (of_feature name k f) refl (λ e. cc)
-by_pairs P one two (of_list o i k g) = one (of_list o i k g) refl (λ e. cc)
-by_pairs P one two (of_ask name v i g k) = one (of_ask name v i g k) refl (λ e. cc)
-by_pairs P one two (of_entry name v f g) = one (of_entry name v f g) refl (λ e. cc)
-by_pairs P one two (of_enabling name v f e i) = one (of_enabling name v f e i) refl (λ e. cc)
-by_pairs P one two (of_asking name v f g i) = one (of_asking name v f g i) refl (λ e. cc)
-by_pairs P one two (of_newest o i j k m) = two o i j k m
-by_pairs P one two (of_weak name v f g i k) = one (of_weak name v f g i k) refl (λ e. cc)
-
--- what holds of the first pair, and of the second of two, holds of each
+-- what holds of the first, and of the second of two, holds of each
 each_pair : (P : Cause → Pair → Type 0) → ((c : Cause) → P c (first_pair c))
     → ((o : Owner) (i j : ℕ) (k m : Class) → P (of_newest o i j k m) (dep o j, in_class m))
     → (c : Cause) (p : Pair) → Contains (pairs_of c) p → P c p
-each_pair P first second c p = by_pairs (λ c. Contains (pairs_of c) p → P c p)
-    (λ c one at h. subst (P c) (sym (only_one (first_pair c) p (subst (λ l. Contains l p) one h))) (first c))
-    (λ o i j k m h. elim (in_cons (dep o i, in_class k) p ((dep o j, in_class m) ∷ []) h) [
+each_pair P first second (of_newest o i j k m) p h =
+    elim (in_cons (dep o i, in_class k) p ((dep o j, in_class m) ∷ []) h) [
       | inl e ↦ subst (P (of_newest o i j k m)) e (first (of_newest o i j k m))
       | inr n ↦ subst (P (of_newest o i j k m)) (sym (only_one (dep o j, in_class m) p n)) (second o i j k m)
-    ]) c
+    ]
+each_pair P first second c p h = subst (P c) (sym (only_one (first_pair c) p h)) (first c)
 
-pub first_named : (c : Cause) → Contains (pairs_of c) (first_pair c)
-first_named c = by_pairs (λ c. Contains (pairs_of c) (first_pair c))
-    (λ c one at. subst (λ l. Contains l (first_pair c)) (sym one) (in_first (first_pair c) []))
-    (λ o i j k m. in_first _ ((dep o j, in_class m) ∷ [])) c
-
+-- only the root's is with absent
 pub only_root : (c : Cause) (v : Vertex) → Contains (pairs_of c) (v, absent) → c ≡ of_root
-only_root c v h = each_pair (λ c p. p.1 ≡ absent → c ≡ of_root)
-    (λ c. by_pairs (λ c. (first_pair c).1 ≡ absent → c ≡ of_root) (λ c one at. at) (λ o i j k m e. cc) c)
-    (λ o i j k m e. cc) c (v, absent) h refl
+only_root c v h = each_pair (λ c p. p.1 ≡ absent → c ≡ of_root) first (λ o i j k m e. cc) c (v, absent) h refl
+  where
+    first : (c : Cause) → (first_pair c).1 ≡ absent → c ≡ of_root
+    first of_root e = refl
+    first (of_need the_root i) e = cc
+    first c e = cc
 
 -- ---- the terms of an instance
 
@@ -85,12 +67,8 @@ module _ (q : Problem) where
   instance_one_absent k ts (has_target o i d m has c) = inl (refl, inr tt)
   instance_one_absent k ts (has_its_feature name m f v) = inl (refl, inr tt)
   instance_one_absent k ts (wants_by_list o i d m g has c a) = inl (refl, inr tt)
-  instance_one_absent k ts (wants_by_entry name v i d m f g has c e) = inl (refl, inl (refl, inr tt))
-  instance_one_absent k ts (feature_on name v f g e n) = inl (refl, inl (refl, inr tt))
-  instance_one_absent k ts (dependency_on name v i d f has e) = inl (refl, inl (refl, inr tt))
-  instance_one_absent k ts (feature_asks name v i d f g has e) = inl (refl, inl (refl, inr tt))
-  instance_one_absent k ts (newest_listed o i j d e m l n has had same c r lower any) = inl (refl, inl (refl, inr tt))
   instance_one_absent k ts (weakly name v i d m f g has c e n) = inl (refl, inl (refl, inl (refl, inr tt)))
+  instance_one_absent k ts is = inl (refl, inl (refl, inr tt))
 
   abbrev In : Vertex → List State → Type 0
   In v ss = (s : State) → has_state ss s ≡ true → has_state (space q v) s ≡ true
@@ -205,19 +183,15 @@ module _ (q : Problem) where
   with_some P terms (Some d) some of = of d
 
   begins : (c : Cause) → FirstIsThere (terms_of_cause q c) → Begins (first_pair c) (terms_of_cause q c)
-  begins of_root some = (_, refl)
   begins (of_need o i) some = owner_begins o _
   begins (of_target o i k) some = with_some (Begins _) _ (dependency_at q o i) some (λ d. (_, refl))
-  begins (of_feature name k f) some = (_, refl)
   begins (of_list o i k g) some = with_some (Begins _) _ (dependency_at q o i) some (λ d. (_, refl))
   begins (of_ask name v i g k) some =
       with_some (Begins _) _ (dependency_at q (version_of name v) i) some (λ d. (_, refl))
-  begins (of_entry name v f g) some = (_, refl)
-  begins (of_enabling name v f e i) some = (_, refl)
-  begins (of_asking name v f g i) some = (_, refl)
   begins (of_newest o i j k m) some = with_some (Begins _) _ (dependency_at q o i) some (λ d. (_, refl))
   begins (of_weak name v f g i k) some =
       with_some (Begins _) _ (dependency_at q (version_of name v) i) some (λ d. (_, refl))
+  begins c some = (_, refl)
 
   -- the first is on a vertex that is there, in one of its states
   pub first_there : (c : Cause) → is_cause q c ≡ true
@@ -258,12 +232,4 @@ module _ (q : Problem) where
 
 pub kind_back : (k : Kind) → kind_at (kind_number k) ≡ k
 kind_back Root = refl
-kind_back Needed = refl
-kind_back Target = refl
-kind_back HasFeature = refl
-kind_back WantsFeature = refl
-kind_back FeatureOnFeature = refl
-kind_back FeatureOnDependency = refl
-kind_back FeatureAsks = refl
-kind_back NewestListed = refl
-kind_back WeakFeature = refl
+kind_back k = refl

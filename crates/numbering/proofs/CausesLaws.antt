@@ -258,9 +258,7 @@ module _ (q : Problem) where
         let w = from_unless (same_text f g) c (of_entry name v f g ∷ []) h in
         thus _ _ (of_entry name v f g) c (only_one (of_entry name v f g) c w.1)
         (and_from (has_entry q name v f (feature g)) (not (same_text f g)) t (ap not w.0)) refl
-    turned_back (dependency d) c t h = absurd (in_none c h)
-    turned_back (dependency_feature d g) c t h = absurd (in_none c h)
-    turned_back (weak_feature d g) c t h = absurd (in_none c h)
+    turned_back e c t h = absurd (in_none c h)
 
     enabling_back : (e : Entry) (i : ℕ) (d : Dependency) (c : Cause) → has_entry q name v f e ≡ true
         → dependency_at q (version_of name v) i ≡ Some d → enables d.name e ≡ true
@@ -416,27 +414,14 @@ module _ (q : Problem) where
       → Contains (causes_at q v s) c → (is_cause q c ≡ true) × (first_pair c ≡ (v, s))
   is_there root absent is within c h = thus root absent of_root c (only_one of_root c h) refl refl
   is_there root present is within c h = need_back the_root c h
-  is_there root (version w) is within c h = absurd (in_none c h)
-  is_there root (in_class k) is within c h = absurd (in_none c h)
-  is_there (pkg name k) absent is within c h = absurd (in_none c h)
-  is_there (pkg name k) present is within c h = absurd (in_none c h)
   is_there (pkg name k) (version v) is within c h =
       let r = version_back name v c h in
       (r.0, r.1 ∙ ap (λ m. (pkg name m, version v)) (sym (class_of_version name k v within)))
-  is_there (pkg name k) (in_class m) is within c h = absurd (in_none c h)
-  is_there (dep o i) absent is within c h = absurd (in_none c h)
-  is_there (dep o i) present is within c h = absurd (in_none c h)
-  is_there (dep o i) (version w) is within c h = absurd (in_none c h)
   is_there (dep o i) (in_class k) is within c h = dep_back o i k c within h
-  is_there (feat name k f) absent is within c h = absurd (in_none c h)
   is_there (feat name k f) present is within c h =
       thus _ _ (of_feature name k f) c (only_one (of_feature name k f) c h) (to_feature q name k f is) refl
-  is_there (feat name k f) (version w) is within c h = absurd (in_none c h)
-  is_there (feat name k f) (in_class m) is within c h = absurd (in_none c h)
-  is_there (ask name v i g) absent is within c h = absurd (in_none c h)
   is_there (ask name v i g) present is within c h = ask_back name v i g c is h
-  is_there (ask name v i g) (version w) is within c h = absurd (in_none c h)
-  is_there (ask name v i g) (in_class m) is within c h = absurd (in_none c h)
+  is_there v s is within c h = absurd (in_none c h)
 
   -- those of a dependency in a class that name no other dependency are among them
   pub alone_there : (o : Owner) (i : ℕ) (k : Class) → IsVertex q (dep o i) → Contains (space q (dep o i)) (in_class k)

@@ -7,8 +7,7 @@ use Rattle.std.proofs.lemmas.List.Elements.{Contains-append_cases, Contains-appe
 use Rattle.model.specs.Summary.{Dependency, same_text}
 use Rattle.model.specs.Content.{Problem}
 use Rattle.model.specs.Selection.{Class}
-use Rattle.model.specs.Vertices.{Owner, owner_brings, Vertex, root, pkg, dep, feat, ask, State, absent, present}
-use Rattle.model.specs.Vertices.{version, in_class, dep_classes, space}
+use Rattle.model.specs.Vertices.{Owner, owner_brings, Vertex, dep, State, in_class, dep_classes, space}
 use Rattle.model.specs.Axioms.{IsVertex, is_lower}
 use Rattle.model.proofs.Flat.{in_flat, to_flat}
 use Rattle.model.proofs.Lists.{in_none, in_cons, in_first, in_rest}
@@ -23,7 +22,7 @@ use Rattle.numbering.specs.Pairs.{Pair, first_pair, pairs_of}
 use Rattle.numbering.specs.declared.noted.Noted.{Noted}
 use Rattle.numbering.proofs.CausesLaws.{alone_there, is_listed, is_there, newest_is}
 use Rattle.numbering.proofs.Each.{from_if, in_all, only_one, to_if}
-use Rattle.numbering.proofs.ByKind.{by_pairs, first_named}
+use Rattle.numbering.proofs.ByKind.{first_named}
 
 module _ (q : Problem) (ps : List (ℕ × Class)) where
   -- ---- no other is listed
@@ -69,14 +68,8 @@ module _ (q : Problem) (ps : List (ℕ × Class)) where
 
   pub next_there : (v : Vertex) (s : State) → IsVertex q v → Contains (space q v) s → (c : Cause)
       → Contains (asked_causes q ps v s) c → (is_cause q c ≡ true) × Contains (pairs_of c) (v, s)
-  next_there root s is within c h = named root s c (is_there q root s is within c h)
-  next_there (pkg name k) s is within c h = named (pkg name k) s c (is_there q (pkg name k) s is within c h)
-  next_there (dep o i) absent is within c h = absurd (in_none c h)
-  next_there (dep o i) present is within c h = absurd (in_none c h)
-  next_there (dep o i) (version w) is within c h = absurd (in_none c h)
   next_there (dep o i) (in_class k) is within c h = dep_there o i k is within c h
-  next_there (feat name k f) s is within c h = named (feat name k f) s c (is_there q (feat name k f) s is within c h)
-  next_there (ask name v i g) s is within c h = named (ask name v i g) s c (is_there q (ask name v i g) s is within c h)
+  next_there v s is within c h = named v s c (is_there q v s is within c h)
 
   -- ---- and each is
 
@@ -87,11 +80,6 @@ module _ (q : Problem) (ps : List (ℕ × Class)) where
   -- one that names one pair
   alone_in : (v : Vertex) (s : State) (c : Cause) → pairs_of c ≡ first_pair c ∷ [] → Contains (causes_at q v s) c
       → Contains (asked_causes q ps v s) c
-  alone_in root s c one h = h
-  alone_in (pkg name k) s c one h = h
-  alone_in (dep o i) absent c one h = h
-  alone_in (dep o i) present c one h = h
-  alone_in (dep o i) (version w) c one h = h
   alone_in (dep o i) (in_class k) c one h = by (dependency_at q o i) h
     where
       two : (a b d : Pair) → a ∷ b ∷ [] ≡ d ∷ [] → ⊥
@@ -111,8 +99,7 @@ module _ (q : Problem) (ps : List (ℕ × Class)) where
                 absurd (two _ _ _ (subst (λ y. pairs_of y ≡ first_pair y ∷ [])
                 (only_one (of_newest o i r.0 k x.0) c w.1) one))
           ]
-  alone_in (feat name k f) s c one h = h
-  alone_in (ask name v i g) s c one h = h
+  alone_in v s c one h = h
 
   one_in : (c : Cause) (v : Vertex) (s : State) → is_cause q c ≡ true → pairs_of c ≡ first_pair c ∷ []
       → Contains (pairs_of c) (v, s) → Contains (asked_causes q ps v s) c
@@ -214,19 +201,19 @@ module _ (q : Problem) (ps : List (ℕ × Class)) where
 
   pub next_listed : (ns : Noted) (v : Vertex) (s : State) (c : Cause) → AreBeside q ns (v, s) ps
       → IsListed (IsNoted q ns) v s c
-  next_listed ns v s c are = by_pairs (IsListed (IsNoted q ns) v s) (λ c one at t here all. one_in c v s t one here)
-      (λ o i j k m. newest_in ns o i j k m v s are) c
+  next_listed ns v s (of_newest o i j k m) are = newest_in ns o i j k m v s are
+  next_listed ns v s c are = λ t here all. one_in c v s t refl here
 
   -- two dependencies aren't one pair
   pub first_listed : (v : Vertex) (s : State) (c : Cause) → IsListed (λ r. ⊥) v s c
-  first_listed v s = by_pairs (IsListed (λ r. ⊥) v s) (λ c one at t here all. one_in c v s t one here)
-      (λ o i j k m t here all.
+  first_listed v s (of_newest o i j k m) = λ t here all.
       let first : Pair = (dep o i, in_class k) in
       let second : Pair = (dep o j, in_class m) in
       let one = alone first (all first (in_first first (second ∷ []))) in
       let other = alone second (all second (in_rest first second (second ∷ []) (in_first second []))) in
-      absurd ((newest_names o i j k m t).0 (same_number o i j (ap (λ (p : Pair). p.0) (one ∙ sym other)))))
+      absurd ((newest_names o i j k m t).0 (same_number o i j (ap (λ (p : Pair). p.0) (one ∙ sym other))))
     where
       alone : (r : Pair) → (r ≡ (v, s)) ⊎ ⊥ → r ≡ (v, s)
       alone r (inl e) = e
       alone r (inr x) = absurd x
+  first_listed v s c = λ t here all. one_in c v s t refl here

@@ -27,155 +27,35 @@ use Rattle.numbering.proofs.Needing.{apart_last}
 
 entry_same : (a b : Entry) → (entry_eq.eq-value).it a b ≡ same_entry (entry_view a) (entry_view b)
 entry_same (entry.Feature d) (entry.Feature e) = refl
-entry_same (entry.Feature d) (entry.Dependency e) = refl
-entry_same (entry.Feature d) (entry.DependencyFeature e g) = refl
-entry_same (entry.Feature d) (entry.WeakFeature e g) = refl
-entry_same (entry.Dependency d) (entry.Feature e) = refl
 entry_same (entry.Dependency d) (entry.Dependency e) = refl
-entry_same (entry.Dependency d) (entry.DependencyFeature e g) = refl
-entry_same (entry.Dependency d) (entry.WeakFeature e g) = refl
-entry_same (entry.DependencyFeature d f) (entry.Feature e) = refl
-entry_same (entry.DependencyFeature d f) (entry.Dependency e) = refl
 entry_same (entry.DependencyFeature d f) (entry.DependencyFeature e g) = refl
-entry_same (entry.DependencyFeature d f) (entry.WeakFeature e g) = refl
-entry_same (entry.WeakFeature d f) (entry.Feature e) = refl
-entry_same (entry.WeakFeature d f) (entry.Dependency e) = refl
-entry_same (entry.WeakFeature d f) (entry.DependencyFeature e g) = refl
 entry_same (entry.WeakFeature d f) (entry.WeakFeature e g) = refl
+entry_same a b = refl
 
 cause_same : (a b : Cause) → (cause_eq.eq-value).it a b ≡ same_cause (cause_view a) (cause_view b)
 cause_same cause.Root cause.Root = refl
-cause_same cause.Root (cause.Need o2 i2) = refl
-cause_same cause.Root (cause.Target o2 i2 k2) = refl
-cause_same cause.Root (cause.Feature n2 k2 f2) = refl
-cause_same cause.Root (cause.List o2 i2 k2 g2) = refl
-cause_same cause.Root (cause.Ask n2 v2 i2 g2 k2) = refl
-cause_same cause.Root (cause.Entry n2 v2 f2 g2) = refl
-cause_same cause.Root (cause.Enabling n2 v2 f2 e2 i2) = refl
-cause_same cause.Root (cause.Asking n2 v2 f2 g2 i2) = refl
-cause_same cause.Root (cause.Newest o2 i2 j2 k2 m2) = refl
-cause_same cause.Root (cause.Weak n2 v2 f2 g2 i2 k2) = refl
-cause_same (cause.Need o i) cause.Root = refl
 cause_same (cause.Need o i) (cause.Need o2 i2) = ap (λ a. a && (nat_eq i i2)) (owner_same o o2)
-cause_same (cause.Need o i) (cause.Target o2 i2 k2) = refl
-cause_same (cause.Need o i) (cause.Feature n2 k2 f2) = refl
-cause_same (cause.Need o i) (cause.List o2 i2 k2 g2) = refl
-cause_same (cause.Need o i) (cause.Ask n2 v2 i2 g2 k2) = refl
-cause_same (cause.Need o i) (cause.Entry n2 v2 f2 g2) = refl
-cause_same (cause.Need o i) (cause.Enabling n2 v2 f2 e2 i2) = refl
-cause_same (cause.Need o i) (cause.Asking n2 v2 f2 g2 i2) = refl
-cause_same (cause.Need o i) (cause.Newest o2 i2 j2 k2 m2) = refl
-cause_same (cause.Need o i) (cause.Weak n2 v2 f2 g2 i2 k2) = refl
-cause_same (cause.Target o i k) cause.Root = refl
-cause_same (cause.Target o i k) (cause.Need o2 i2) = refl
 cause_same (cause.Target o i k) (cause.Target o2 i2 k2) =
     ap₂ (λ a b. a && (nat_eq i i2 && b)) (owner_same o o2) (class_same k k2)
-cause_same (cause.Target o i k) (cause.Feature n2 k2 f2) = refl
-cause_same (cause.Target o i k) (cause.List o2 i2 k2 g2) = refl
-cause_same (cause.Target o i k) (cause.Ask n2 v2 i2 g2 k2) = refl
-cause_same (cause.Target o i k) (cause.Entry n2 v2 f2 g2) = refl
-cause_same (cause.Target o i k) (cause.Enabling n2 v2 f2 e2 i2) = refl
-cause_same (cause.Target o i k) (cause.Asking n2 v2 f2 g2 i2) = refl
-cause_same (cause.Target o i k) (cause.Newest o2 i2 j2 k2 m2) = refl
-cause_same (cause.Target o i k) (cause.Weak n2 v2 f2 g2 i2 k2) = refl
-cause_same (cause.Feature n k f) cause.Root = refl
-cause_same (cause.Feature n k f) (cause.Need o2 i2) = refl
-cause_same (cause.Feature n k f) (cause.Target o2 i2 k2) = refl
 cause_same (cause.Feature n k f) (cause.Feature n2 k2 f2) =
     ap (λ a. same_text n.now n2.now && (a && (same_text f.now f2.now))) (class_same k k2)
-cause_same (cause.Feature n k f) (cause.List o2 i2 k2 g2) = refl
-cause_same (cause.Feature n k f) (cause.Ask n2 v2 i2 g2 k2) = refl
-cause_same (cause.Feature n k f) (cause.Entry n2 v2 f2 g2) = refl
-cause_same (cause.Feature n k f) (cause.Enabling n2 v2 f2 e2 i2) = refl
-cause_same (cause.Feature n k f) (cause.Asking n2 v2 f2 g2 i2) = refl
-cause_same (cause.Feature n k f) (cause.Newest o2 i2 j2 k2 m2) = refl
-cause_same (cause.Feature n k f) (cause.Weak n2 v2 f2 g2 i2 k2) = refl
-cause_same (cause.List o i k g) cause.Root = refl
-cause_same (cause.List o i k g) (cause.Need o2 i2) = refl
-cause_same (cause.List o i k g) (cause.Target o2 i2 k2) = refl
-cause_same (cause.List o i k g) (cause.Feature n2 k2 f2) = refl
 cause_same (cause.List o i k g) (cause.List o2 i2 k2 g2) =
     ap₂ (λ a b. a && (nat_eq i i2 && (b && (same_text g.now g2.now)))) (owner_same o o2) (class_same k k2)
-cause_same (cause.List o i k g) (cause.Ask n2 v2 i2 g2 k2) = refl
-cause_same (cause.List o i k g) (cause.Entry n2 v2 f2 g2) = refl
-cause_same (cause.List o i k g) (cause.Enabling n2 v2 f2 e2 i2) = refl
-cause_same (cause.List o i k g) (cause.Asking n2 v2 f2 g2 i2) = refl
-cause_same (cause.List o i k g) (cause.Newest o2 i2 j2 k2 m2) = refl
-cause_same (cause.List o i k g) (cause.Weak n2 v2 f2 g2 i2 k2) = refl
-cause_same (cause.Ask n v i g k) cause.Root = refl
-cause_same (cause.Ask n v i g k) (cause.Need o2 i2) = refl
-cause_same (cause.Ask n v i g k) (cause.Target o2 i2 k2) = refl
-cause_same (cause.Ask n v i g k) (cause.Feature n2 k2 f2) = refl
-cause_same (cause.Ask n v i g k) (cause.List o2 i2 k2 g2) = refl
 cause_same (cause.Ask n v i g k) (cause.Ask n2 v2 i2 g2 k2) = ap₂ (λ a b. same_text n.now n2.now
     && (a && (nat_eq i i2 && (same_text g.now g2.now && b)))) (version_same v.now v2.now) (class_same k k2)
-cause_same (cause.Ask n v i g k) (cause.Entry n2 v2 f2 g2) = refl
-cause_same (cause.Ask n v i g k) (cause.Enabling n2 v2 f2 e2 i2) = refl
-cause_same (cause.Ask n v i g k) (cause.Asking n2 v2 f2 g2 i2) = refl
-cause_same (cause.Ask n v i g k) (cause.Newest o2 i2 j2 k2 m2) = refl
-cause_same (cause.Ask n v i g k) (cause.Weak n2 v2 f2 g2 i2 k2) = refl
-cause_same (cause.Entry n v f g) cause.Root = refl
-cause_same (cause.Entry n v f g) (cause.Need o2 i2) = refl
-cause_same (cause.Entry n v f g) (cause.Target o2 i2 k2) = refl
-cause_same (cause.Entry n v f g) (cause.Feature n2 k2 f2) = refl
-cause_same (cause.Entry n v f g) (cause.List o2 i2 k2 g2) = refl
-cause_same (cause.Entry n v f g) (cause.Ask n2 v2 i2 g2 k2) = refl
 cause_same (cause.Entry n v f g) (cause.Entry n2 v2 f2 g2) = ap (λ a. same_text n.now n2.now
     && (a && (same_text f.now f2.now && (same_text g.now g2.now)))) (version_same v.now v2.now)
-cause_same (cause.Entry n v f g) (cause.Enabling n2 v2 f2 e2 i2) = refl
-cause_same (cause.Entry n v f g) (cause.Asking n2 v2 f2 g2 i2) = refl
-cause_same (cause.Entry n v f g) (cause.Newest o2 i2 j2 k2 m2) = refl
-cause_same (cause.Entry n v f g) (cause.Weak n2 v2 f2 g2 i2 k2) = refl
-cause_same (cause.Enabling n v f e i) cause.Root = refl
-cause_same (cause.Enabling n v f e i) (cause.Need o2 i2) = refl
-cause_same (cause.Enabling n v f e i) (cause.Target o2 i2 k2) = refl
-cause_same (cause.Enabling n v f e i) (cause.Feature n2 k2 f2) = refl
-cause_same (cause.Enabling n v f e i) (cause.List o2 i2 k2 g2) = refl
-cause_same (cause.Enabling n v f e i) (cause.Ask n2 v2 i2 g2 k2) = refl
-cause_same (cause.Enabling n v f e i) (cause.Entry n2 v2 f2 g2) = refl
 cause_same (cause.Enabling n v f e i) (cause.Enabling n2 v2 f2 e2 i2) = ap₂ (λ a b. same_text n.now n2.now
     && (a && (same_text f.now f2.now && (b && (nat_eq i i2))))) (version_same v.now v2.now) (entry_same e.now e2.now)
-cause_same (cause.Enabling n v f e i) (cause.Asking n2 v2 f2 g2 i2) = refl
-cause_same (cause.Enabling n v f e i) (cause.Newest o2 i2 j2 k2 m2) = refl
-cause_same (cause.Enabling n v f e i) (cause.Weak n2 v2 f2 g2 i2 k2) = refl
-cause_same (cause.Asking n v f g i) cause.Root = refl
-cause_same (cause.Asking n v f g i) (cause.Need o2 i2) = refl
-cause_same (cause.Asking n v f g i) (cause.Target o2 i2 k2) = refl
-cause_same (cause.Asking n v f g i) (cause.Feature n2 k2 f2) = refl
-cause_same (cause.Asking n v f g i) (cause.List o2 i2 k2 g2) = refl
-cause_same (cause.Asking n v f g i) (cause.Ask n2 v2 i2 g2 k2) = refl
-cause_same (cause.Asking n v f g i) (cause.Entry n2 v2 f2 g2) = refl
-cause_same (cause.Asking n v f g i) (cause.Enabling n2 v2 f2 e2 i2) = refl
 cause_same (cause.Asking n v f g i) (cause.Asking n2 v2 f2 g2 i2) = ap (λ a. same_text n.now n2.now
     && (a && (same_text f.now f2.now && (same_text g.now g2.now && (nat_eq i i2))))) (version_same v.now v2.now)
-cause_same (cause.Asking n v f g i) (cause.Newest o2 i2 j2 k2 m2) = refl
-cause_same (cause.Asking n v f g i) (cause.Weak n2 v2 f2 g2 i2 k2) = refl
-cause_same (cause.Newest o i j k m) cause.Root = refl
-cause_same (cause.Newest o i j k m) (cause.Need o2 i2) = refl
-cause_same (cause.Newest o i j k m) (cause.Target o2 i2 k2) = refl
-cause_same (cause.Newest o i j k m) (cause.Feature n2 k2 f2) = refl
-cause_same (cause.Newest o i j k m) (cause.List o2 i2 k2 g2) = refl
-cause_same (cause.Newest o i j k m) (cause.Ask n2 v2 i2 g2 k2) = refl
-cause_same (cause.Newest o i j k m) (cause.Entry n2 v2 f2 g2) = refl
-cause_same (cause.Newest o i j k m) (cause.Enabling n2 v2 f2 e2 i2) = refl
-cause_same (cause.Newest o i j k m) (cause.Asking n2 v2 f2 g2 i2) = refl
 cause_same (cause.Newest o i j k m) (cause.Newest o2 i2 j2 k2 m2) =
     ap₂ (λ a t. a && (nat_eq i i2 && (nat_eq j j2 && t))) (owner_same o o2)
     (ap₂ (λ b c. b && c) (class_same k k2) (class_same m m2))
-cause_same (cause.Newest o i j k m) (cause.Weak n2 v2 f2 g2 i2 k2) = refl
-cause_same (cause.Weak n v f g i k) cause.Root = refl
-cause_same (cause.Weak n v f g i k) (cause.Need o2 i2) = refl
-cause_same (cause.Weak n v f g i k) (cause.Target o2 i2 k2) = refl
-cause_same (cause.Weak n v f g i k) (cause.Feature n2 k2 f2) = refl
-cause_same (cause.Weak n v f g i k) (cause.List o2 i2 k2 g2) = refl
-cause_same (cause.Weak n v f g i k) (cause.Ask n2 v2 i2 g2 k2) = refl
-cause_same (cause.Weak n v f g i k) (cause.Entry n2 v2 f2 g2) = refl
-cause_same (cause.Weak n v f g i k) (cause.Enabling n2 v2 f2 e2 i2) = refl
-cause_same (cause.Weak n v f g i k) (cause.Asking n2 v2 f2 g2 i2) = refl
-cause_same (cause.Weak n v f g i k) (cause.Newest o2 i2 j2 k2 m2) = refl
 cause_same (cause.Weak n v f g i k) (cause.Weak n2 v2 f2 g2 i2 k2) = ap₂
     (λ a b. same_text n.now n2.now && (a && (same_text f.now f2.now && (same_text g.now g2.now && (nat_eq i i2 && b)))))
     (version_same v.now v2.now) (class_same k k2)
+cause_same a b = refl
 
 -- ---- causes that are kept, and what they stand for
 
