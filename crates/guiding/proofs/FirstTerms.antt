@@ -13,8 +13,7 @@ use Rattle.terms.specs.Terms.{TermView}
 use Rattle.model.specs.Summary.{Dependency}
 use Rattle.model.specs.Content.{Problem}
 use Rattle.model.specs.Order.{IsCatalogue}
-use Rattle.model.specs.Vertices.{Vertex, root, pkg, dep, feat, ask, State, absent}
-use Rattle.model.specs.Vertices.{has_state, dep_space, space, owner_brings}
+use Rattle.model.specs.Vertices.{Vertex, dep, State, absent, has_state, dep_space, space, owner_brings}
 use Rattle.model.specs.Derivation.{states_at}
 use Rattle.model.proofs.Same.{state-refl}
 use Rattle.model.proofs.Lists.{in_first, in_rest, pairs_first, pairs_rest}
@@ -74,11 +73,8 @@ dep_starts q None = (_, refl)
 dep_starts q (Some d) = (_, refl)
 
 pub space_starts : (q : Problem) (v : Vertex) → StartsAbsent (space q v)
-space_starts q root = (_, refl)
-space_starts q (pkg name k) = (_, refl)
 space_starts q (dep o i) = dep_starts q (slice_get (owner_brings q o).dependencies i)
-space_starts q (feat n k f) = (_, refl)
-space_starts q (ask n v i g) = (_, refl)
+space_starts q v = (_, refl)
 
 later_apart : (rest : List State) (i : ℕ) (s : State) → AllPairs (λ s r. s ≢ r) (absent ∷ rest) → 0 < i
     → slice_get (absent ∷ rest) i ≡ Some s → s ≢ absent
