@@ -52,7 +52,7 @@ module _ {S : Type 0} (calls : Calls S) (failed : S → ℕ) (request : RequestV
       → old_of_bytes request.old ≡ Ok old
       → LoadsFor calls failed request before m old (Err load.OutOfMemory) after
       → (names : List (List ℕ)) × IsCutShort calls failed request before names after
-  cut m old after h l (inl so_far) = (names_in so_far.asked, while_loading m old so_far.asked after h l so_far.so_far)
+  cut m old after h l (inl (asked, so_far)) = (names_in asked, while_loading m old asked after h l so_far)
   cut m old after h l (inr stop) = (
     names_in stop.asked ++ stop.name ∷ [],
     while_asking m old stop.asked stop.mid stop.name after h l stop.so_far stop.next stop.fewer stop.fails,
