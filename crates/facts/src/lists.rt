@@ -50,14 +50,15 @@ fn put_both(lists: &mut Vec<Vec<Rule>>, rule: &Rule) -> Result<(), AllocError>
     ensures length { length lists.new.items ≡ length lists.old.items }
     ensures put { OnOk result (rule_lists lists.new.items ≡ put_both (rule_lists lists.old.items) rule.now) }
 {
-    put(lists, rule.first, rule)?;
+    put_rule(lists, rule.first, rule)?;
     if rule.first == rule.second {
         return Ok(());
     }
-    put(lists, rule.second, rule)
+    put_rule(lists, rule.second, rule)
 }
 
-fn put(lists: &mut Vec<Vec<Rule>>, fact: usize, rule: &Rule) -> Result<(), AllocError>
+/// Puts a rule behind those of a fact.
+fn put_rule(lists: &mut Vec<Vec<Rule>>, fact: usize, rule: &Rule) -> Result<(), AllocError>
     requires below { fact < length lists.old.items }
     ensures length { length lists.new.items ≡ length lists.old.items }
     ensures put { OnOk result (rule_lists lists.new.items ≡ put_at (rule_lists lists.old.items) fact rule.now) }

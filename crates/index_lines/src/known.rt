@@ -121,7 +121,7 @@ impl KnownDependencies {
             features: kept_texts(alloc, &part.features)?,
             dependency: dependency.clone()?,
         };
-        put(&mut self.slots, made);
+        place_dependency(&mut self.slots, made);
         self.kept = self.kept.saturating_add(1);
         Ok(())
     }
@@ -135,7 +135,7 @@ impl KnownDependencies {
         let fewer = mem::replace(&mut self.slots, no_dependencies(alloc, places)?);
         'fewer: for slot in fewer {
             if let Some(made) = slot {
-                put(&mut self.slots, made);
+                place_dependency(&mut self.slots, made);
             }
         }
         Ok(())
@@ -164,7 +164,7 @@ fn no_dependencies(
 }
 
 /// Puts a dependency into its place.
-fn put(slots: &mut [Option<MadeDependency>], made: MadeDependency) {
+fn place_dependency(slots: &mut [Option<MadeDependency>], made: MadeDependency) {
     let place = slot_of(made.hash, slots.len());
     if let Some(slot) = slots.get_mut(place) {
         *slot = Some(made);

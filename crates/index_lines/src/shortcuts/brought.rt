@@ -19,7 +19,7 @@ use crate::shape::features_if_any;
 use crate::shortcuts::item::ItemRead;
 use crate::shortcuts::items::{items_after, names, those_taking_part};
 use crate::shortcuts::row::RowRead;
-use crate::shortcuts::rows::{rows_after, rows_of};
+use crate::shortcuts::rows::{copied_rows, rows_after};
 use crate::shortcuts::split::LineParts;
 use crate::values::read_part;
 use crate::written::{features_alone, table};
@@ -181,7 +181,7 @@ fn table_of_rows(
     ensures { Gives wants_memory
         (λ t. t) result (table_of_bytes (dep_names_view names.now) (braced (row_texts rows.now))) }
 {
-    let rows = rows_of(alloc, rows)?;
+    let rows = copied_rows(alloc, rows)?;
     table(alloc, names, rows)
 }
 

@@ -73,7 +73,7 @@ fn read_by_parts<'a>(
     ensures { IfOk result (λ r. unchecked_of_line name.now line.entry.now ≡ Ok (record_view r)) }
 {
     check(line.len() <= MAX_LEN, SkipReason::Shape)?;
-    let parts = cut(name, line, before)?;
+    let parts = cut_line(name, line, before)?;
     read_parts(alloc, &parts, scratch, known, before)
 }
 
@@ -108,7 +108,7 @@ fn read_parts<'a>(
 }
 
 /// The parts of a line.
-fn cut<'a>(
+fn cut_line<'a>(
     name: &PackageName,
     line: &'a [u8],
     before: &PartsBefore<'a>,

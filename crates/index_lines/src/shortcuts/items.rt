@@ -96,7 +96,7 @@ fn next_item<'a>(
     if let Some(next) = item_again(bytes, before, place)? {
         return Ok(next);
     }
-    let (text, left) = cut(bytes);
+    let (text, left) = cut_item(bytes);
     let item = ItemRead::of(alloc, text, scratch, known)?;
     Ok(Next { item, left, place })
 }
@@ -125,7 +125,7 @@ fn item_again<'a>(
 }
 
 /// The bytes up to where an item seems to end, and those from there on.
-fn cut<'a>(bytes: &'a [u8]) -> (&'a [u8], &'a [u8])
+fn cut_item<'a>(bytes: &'a [u8]) -> (&'a [u8], &'a [u8])
     ensures { bytes.entry.now ≡ result.0.now ++ result.1.now }
 {
     bytes.split_at(item_end(bytes))

@@ -52,7 +52,7 @@ pub(crate) fn rows_after<'a>(
     before.reverse();
     let first = next_row(alloc, members, &mut before, scratch)?;
     let found = rows_from(alloc, first, &mut before, scratch)?;
-    if !names_rise(&found) {
+    if !rows_rise(&found) {
         return Err(LineFault::Skipped(SkipReason::Shape));
     }
     Ok(found)
@@ -94,7 +94,7 @@ fn next_row<'a>(
     if let Some(next) = row_again(bytes, before) {
         return Ok(next);
     }
-    let (text, left) = cut(bytes);
+    let (text, left) = cut_row(bytes);
     let row = RowRead::of(alloc, text, scratch)?;
     Ok(Next { row, left })
 }
@@ -120,7 +120,7 @@ fn gone_before(bytes: &[u8], before: &[RowRead<'_>]) -> Option<usize> {
 }
 
 /// The bytes up to where a feature seems to end, and those from there on.
-fn cut<'a>(bytes: &'a [u8]) -> (&'a [u8], &'a [u8])
+fn cut_row<'a>(bytes: &'a [u8]) -> (&'a [u8], &'a [u8])
     ensures { bytes.entry.now ≡ result.0.now ++ result.1.now }
 {
     bytes.split_at(row_end(bytes))
@@ -136,7 +136,7 @@ fn row_end(bytes: &[u8]) -> usize
 }
 
 /// Whether each feature's name comes after the one before it.
-fn names_rise(rows: &[RowRead<'_>]) -> bool
+fn rows_rise(rows: &[RowRead<'_>]) -> bool
     ensures { result ≡ keys_rise [] (row_views rows.now) }
 {
     let mut before = "";
@@ -151,7 +151,7 @@ fn names_rise(rows: &[RowRead<'_>]) -> bool
 }
 
 /// The features with their entries for a table, which shares them, with room for `default` and an implicit feature.
-pub(crate) fn rows_of(alloc: Global, rows: &[RowRead<'_>]) -> Result<Vec<Row>, AllocError>
+pub(crate) fn copied_rows(alloc: Global, rows: &[RowRead<'_>]) -> Result<Vec<Row>, AllocError>
     ensures { IfOk result (λ v. rows_of v.items ≡ row_views rows.now) }
 {
     let mut found = Vec::with_capacity(alloc, rows.len().saturating_add(2))?;

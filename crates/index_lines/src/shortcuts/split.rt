@@ -39,11 +39,11 @@ pub(crate) fn split<'a>(
     let left = behind(left, b"\",\"vers\":\"")?;
     let (version, left) = plain_text(left)?;
     let left = behind(left, b"\",\"deps\":")?;
-    let (dependencies, left) = cut(left, dependencies, b",\"cksum\":\"")?;
+    let (dependencies, left) = cut_at(left, dependencies, b",\"cksum\":\"")?;
     let left = behind(left, b",\"cksum\":\"")?;
     let (checksum, left) = plain_text(left)?;
     let left = behind(left, b"\",\"features\":")?;
-    let (features, left) = cut(left, features, b",\"yanked\":")?;
+    let (features, left) = cut_at(left, features, b",\"yanked\":")?;
     let rest = behind(left, b",")?;
     Some(LineParts {
         version,
@@ -94,7 +94,7 @@ fn is_plain_byte(byte: u8) -> bool
 }
 
 /// The bytes before a mark, and those from there on.
-fn cut<'a>(bytes: &'a [u8], known: &[u8], mark: &[u8]) -> Option<(&'a [u8], &'a [u8])>
+fn cut_at<'a>(bytes: &'a [u8], known: &[u8], mark: &[u8]) -> Option<(&'a [u8], &'a [u8])>
     ensures { IfSome result (λ p. bytes.entry.now ≡ p.0.now ++ p.1.now) }
 {
     let end = place(bytes, known, mark)?;

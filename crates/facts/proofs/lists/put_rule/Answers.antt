@@ -1,7 +1,7 @@
 use Rattle.std.proofs.Common.{◌≡◌, ◌++◌, ◌∷◌, [], ap, ◌∙◌}
 use Rattle.facts.proofs.ListLemmas.{put-set}
-use Rattle.facts.proofs.lists.put.Goals as goal
-use Rattle.facts.proofs.lists.put.Goals.{then-is_empty+in_ok-reserve_exact, else-is_empty}
+use Rattle.facts.proofs.lists.put_rule.Goals as goal
+use Rattle.facts.proofs.lists.put_rule.Goals.{then-is_empty+in_ok-reserve_exact, else-is_empty}
 
 pub returns-clause-put : goal.returns-clause-put
 returns-clause-put c =
