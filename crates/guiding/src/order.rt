@@ -6,8 +6,8 @@
 //!
 //! After many conflicts on long trails the search is a hard one: each conflict counts, and a later one more (the
 //! activity of SAT solvers), since most of so many vertices have no part in what is wrong. On short trails that may take
-//! far more steps (docs/DECISIONS.md). A conflict that teaches what holds for good makes no search hard: there are no
-//! more of these than states, and a name of many versions that fail one by one has as many.
+//! far more steps (docs/DECISIONS.md). A conflict after which the trail goes back to level 0 makes no search hard: what
+//! it teaches holds for good, and a name of many versions that fail one by one has as many of these.
 
 ghost use Rattle.std.specs.Prelude.{◌≡◌, length};
 ghost use Rattle.propagation.specs.Promises.{IsSound};
@@ -24,7 +24,7 @@ use version_sets::States;
 /// A trail of so many places is long.
 const LONG: usize = 4_000;
 
-/// After so many conflicts on long trails a search is hard.
+/// After so many conflicts on long trails that went back to levels above 0 a search is hard.
 const PATIENCE: usize = 3_000;
 
 /// What a conflict counts at first.
@@ -57,7 +57,7 @@ pub(crate) struct Order {
     weights: Vec<u64>,
     /// What the next conflict counts.
     counts: u64,
-    /// How many conflicts were on long trails, and taught what holds at some levels alone.
+    /// How many conflicts on long trails went back to a level above 0.
     long: usize,
     /// The level that the next decision opens.
     level: usize,

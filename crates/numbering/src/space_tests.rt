@@ -142,7 +142,7 @@ fn range_tests(inside: bool, from: usize, to: usize, count: usize) -> Tests
     })
 }
 
-/// The same by a look at each version, where no range tells it.
+/// What `left_tests` gives, by a look at each version.
 fn each_left(
     alloc: Global,
     requirement: &VersionReq,
@@ -159,7 +159,7 @@ fn each_left(
     Ok(tests)
 }
 
-/// The same by a look at each version, where no range tells it.
+/// What `taken_tests` gives, by a look at each version.
 fn each_taken(
     alloc: Global,
     requirement: &VersionReq,

@@ -282,7 +282,7 @@ impl<'a> Kept<'a> {
         Ok(())
     }
 
-    /// The same of a dependency that is there, unless the versions of the class are few.
+    /// Keeps whether some version of the class is matched, unless these are few.
     fn put_some(&mut self, class: Class, dependency: &'a DependencyParts) -> Result<(), AllocError>
         ensures { problem_of self.new ≡ problem_of self.old }
     {

@@ -1,6 +1,6 @@
 -- All vertices of a problem as they are come upon, many of them more than once: the root's, then those of each
--- candidate. A feature comes once for each candidate of its name, in that one's class. A program makes this list; that
--- of `Everything` in guiding is for proofs alone.
+-- candidate. A feature comes once for each candidate of its name, in that one's class. Code of this crate makes the list;
+-- that of `Everything` in guiding is for proofs alone.
 use Rattle.std.specs.Prelude.{ℕ, List, [], ◌∷◌, ◌++◌, if◌then◌else◌, map}
 use Rattle.std.specs.List.{flat_map}
 use Rattle.semver.specs.Parse.{Parts}

@@ -1,5 +1,5 @@
 -- All vertices of a problem as one list, each once, for proofs alone: the search ends since it meets none but these.
--- That of `Everything` in encoding is one that a program makes.
+-- That of `Everything` in encoding is one that code makes.
 use Rattle.std.specs.Prelude.{List, [], ◌∷◌, ◌++◌, map, ℕ}
 use Rattle.std.specs.List.{flat_map}
 use Rattle.model.specs.Content.{Candidate, Problem, candidates_of}

@@ -1,7 +1,7 @@
 -- The causes of the instances that are added once a vertex has a state, where those that name two dependencies in
 -- classes wait until both of these were asked for.
-use Rattle.std.specs.Prelude.{◌≡◌, ◌≢◌, ◌⊎◌, ◌&&◌, ℕ, nat_eq, List, [], ◌∷◌, ◌++◌, Bool, true, if◌then◌else◌, map, Contains}
-use Rattle.std.specs.Prelude.{Option, None, Some}
+use Rattle.std.specs.Prelude.{◌≡◌, ◌≢◌, ◌⊎◌, ◌&&◌, ℕ, nat_eq, List, [], ◌∷◌, ◌++◌, Bool, true, if◌then◌else◌, map}
+use Rattle.std.specs.Prelude.{Contains, Option, None, Some}
 use Rattle.std.specs.Cmp.Lexicographic.{pointwise}
 use Rattle.std.specs.List.{AllPairs, flat_map}
 use Rattle.std.specs.Map.{lookup}

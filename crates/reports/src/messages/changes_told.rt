@@ -48,7 +48,7 @@ pub fn changes_to(
     Ok(text)
 }
 
-/// A message of each change, and how many there are.
+/// A message of each change; and how many packages are locked anew, and how many have a newer version.
 fn push_changes<'a>(
     text: &mut String,
     alloc: Global,
